@@ -1,0 +1,78 @@
+-- Laws of a node's context: the list around it, what the whole selects, and the node at a position.
+use mathlib.Core.Path.{_≡_, refl, sym, ap, _∙_}
+use mathlib.Core.Bool.{Bool, true, false, cond}
+use mathlib.Core.List.{List, [], _∷_, _++_, append-assoc, append-nil}
+use Prim.Native.Nat.{ℕ, _+_, _-_, _≤_, _<_}
+use native.Mathlib.Omega.{arith}
+use borrow.Author.Tests.{ltb-true, ltb-false}
+use lib.Dec.{ltb}
+use lib.ListN.{length, length-append}
+use Rattle.tree.specs.Tree.{Operator, Tree, leaf, node, postfix, size, sign, selects, apply, Equivalent, Over}
+use Rattle.tree.specs.Context.{Side, left, right, Frame, frame, sided, plug, before, after, position, selectsAbove, OverAbove, Place}
+use Rattle.tree.specs.Parse.{locate}
+use Rattle.tree.proofs.TreeLaws.{postfix-length, size-positive}
+
+-- a node's part is the stretch that ends at it
+pub postfix-plug : (t : Tree) (c : List Frame) → postfix (plug t c) ≡ before c ++ (postfix t ++ after c)
+unfolding postfix plug before after
+postfix-plug t [] = sym (append-nil (postfix t))
+postfix-plug t (frame left o b ∷ c) = postfix-plug (node o t b) c ∙ simp append-assoc
+postfix-plug t (frame right o b ∷ c) = postfix-plug (node o b t) c ∙ simp append-assoc
+
+pub size-plug : (t : Tree) (c : List Frame) → size (plug t c) ≡ length (before c) + size t + length (after c)
+size-plug t c =
+    sym (postfix-length (plug t c)) ∙ ap length (postfix-plug t c)
+    ∙ omega (arith, length-append (before c) (postfix t ++ after c), length-append (postfix t) (after c), postfix-length t)
+
+pub selects-plug : (v : ℕ → Bool) (t : Tree) (c : List Frame) → selects v (plug t c) ≡ selectsAbove v c (selects v t)
+unfolding selects plug selectsAbove
+selects-plug v t [] = refl
+selects-plug v t (frame left o b ∷ c) = selects-plug v (node o t b) c
+selects-plug v t (frame right o b ∷ c) = selects-plug v (node o b t) c
+
+pub plug-append : (t : Tree) (c d : List Frame) → plug t (c ++ d) ≡ plug (plug t c) d
+unfolding plug
+plug-append t [] d = refl
+plug-append t (frame s o b ∷ c) d = plug-append (sided s (node o) t b) c d
+
+-- the leaves of the whole are those of the part and those outside it
+pub over-plug : (m : ℕ → Bool) (t : Tree) (c : List Frame) → Over m t → OverAbove m c → Over m (plug t c)
+unfolding Over OverAbove plug
+over-plug m t [] p q = p
+over-plug m t (frame left o b ∷ c) p q = over-plug m (node o t b) c (p, q .0) (q .1)
+over-plug m t (frame right o b ∷ c) p q = over-plug m (node o b t) c (q .0, p) (q .1)
+
+pub over-part : (m : ℕ → Bool) (t : Tree) (c : List Frame) → Over m (plug t c) → Over m t × OverAbove m c
+unfolding Over OverAbove plug
+over-part m t [] p = (p, tt)
+over-part m t (frame left o b ∷ c) p = let z = over-part m (node o t b) c p in (z .0 .0, (z .0 .1, z .1))
+over-part m t (frame right o b ∷ c) p = let z = over-part m (node o b t) c p in (z .0 .1, (z .0 .0, z .1))
+
+-- the node at a position: the place that `locate` gives has that position, and its part and context make up the tree
+pub record Found (t : Tree) (c : List Frame) (p : ℕ) (s : Place) : Type 0 where
+  pub same : plug (s .part) (s .above) ≡ plug t c
+  pub place : length (before (s .above)) + size (s .part) ≡ length (before c) + p + 1
+
+pub found-at : (t : Tree) (c : List Frame) (p : ℕ) → p < size t → Found t c p (locate t c p)
+unfolding locate plug before size
+found-at (leaf g h) c p k = record { same = refl; place = omega arith }
+found-at (node o l r) c p k = go (found-at l (frame left o r ∷ c) p) (found-at r (frame right o l ∷ c) (p - size l)) (ltb p (size l)) (ltb p (size l + size r)) refl refl
+  where
+    go : (p < size l → Found l (frame left o r ∷ c) p (locate l (frame left o r ∷ c) p))
+        → (p - size l < size r → Found r (frame right o l ∷ c) (p - size l) (locate r (frame right o l ∷ c) (p - size l)))
+        → (b d : Bool) → ltb p (size l) ≡ b → ltb p (size l + size r) ≡ d
+        → Found (node o l r) c p (cond b (locate l (frame left o r ∷ c) p) (cond d (locate r (frame right o l ∷ c) (p - size l)) (record { part = node o l r; above = c })))
+    go fl fr true d e f = let F = fl (ltb-true p (size l) e) in record { same = F .same; place = F .place }
+    go fl fr false true e f =
+        let F = fr (omega (arith, ltb-true p (size l + size r) f, ltb-false p (size l) e)) in
+        record { same = F .same; place = F .place ∙ omega (arith, ltb-false p (size l) e, length-append (before c) (postfix l), postfix-length l) }
+    go fl fr false false e f = record { same = refl; place = omega (arith, ltb-false p (size l + size r) f) }
+
+-- the position that `locate` was asked for
+pub located-position : (t : Tree) (p : ℕ) → p < size t → position (locate t [] p .part) (locate t [] p .above) ≡ p
+unfolding before
+located-position t p h = omega (arith, found-at t [] p h .place)
+
+pub located-whole : (t : Tree) (p : ℕ) → p < size t → plug (locate t [] p .part) (locate t [] p .above) ≡ t
+unfolding plug
+located-whole t p h = found-at t [] p h .same

@@ -1,0 +1,25 @@
+-- `tree::entry_kind` meets its contract, test by test.
+use Rattle.tree.specs.Tree.{union, difference}
+use Rattle.tree.proofs.ScanLaws.{kind-group, kind-operator, kind-neither}
+use mathlib.Core.Path.{sym, _∙_}
+use borrow.Author.Needs.{needs}
+use Rattle.tree.proofs.entry_kind.Statement.{statement}
+use Rattle.tree.proofs.entry_kind.Tie as tie
+
+is-group-requires : tie.Need-is-group-requires
+is-group-requires c κs = search needs
+
+returns : tie.Need-returns
+returns c = kind-group (c .before .before .args .x) (sym (c .before .is-group .ensures) ∙ c .if1 .taken)
+
+returns-2 : tie.Need-returns-2
+returns-2 c = kind-operator (c .before .before .before .args .x) union (c .if2 .taken)
+
+returns-3 : tie.Need-returns-3
+returns-3 c = kind-operator (c .before .before .before .before .args .x) difference (c .if3 .taken)
+
+returns-4 : tie.Need-returns-4
+returns-4 c = kind-neither (c .before .before .before .before .args .x) (sym (c .before .before .before .is-group .ensures) ∙ c .before .before .if1 .left) (c .before .if2 .left) (c .if3 .left)
+
+pub entry-kind-spec : {M : Type 1} → statement M
+entry-kind-spec = tie.close (tie.spec is-group-requires returns returns-2 returns-3 returns-4)

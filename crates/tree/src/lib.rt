@@ -1,0 +1,189 @@
+// Postfix lists of trees: is a list a tree, where a part begins, and what is above it.
+ghost use mathlib.Core.Path.{_≡_};
+ghost use mathlib.Core.List.{List, reverse};
+ghost use Prim.Native.Nat.{ℕ, _+_, _≤_, _<_};
+ghost use lib.ListN.{length, take, drop};
+ghost use Rattle.tree.specs.Tree.{Tree, isGroup};
+ghost use Rattle.tree.specs.Context.{Frame};
+ghost use Rattle.tree.specs.Pass.{entryOf};
+ghost use Rattle.tree.specs.Parse.{treeOf, isSome};
+ghost use Rattle.tree.specs.Part.{Part, Located, aboveOf};
+ghost use Rattle.tree.specs.Scan.{entryKind, operatorKind, onward, backward};
+ghost use Rattle.tree.specs.Writing.{Wrote};
+
+pub const LEAST_GROUP: u16 = 1;
+
+pub const MOST_GROUP: u16 = 9999;
+
+pub const UNION: u16 = 65001;
+
+pub const DIFFERENCE: u16 = 65002;
+
+pub const MOST_NODES: usize = 8191;
+
+// Whether a number is a group.
+pub fn is_group(x: u16) -> bool
+    ensures { λ r. ⌜ r ≡ isGroup x ⌝ }
+{
+    (LEAST_GROUP <= x) & (x <= MOST_GROUP)
+}
+
+// The kind of an entry: 0 a group, 1 an operator, 2 neither.
+fn entry_kind(x: u16) -> u8
+    ensures { λ r. ⌜ r ≡ entryKind (entryOf x) ⌝ }
+{
+    if is_group(x) {
+        return 0;
+    }
+    if x == UNION {
+        return 1;
+    }
+    if x == DIFFERENCE {
+        return 1;
+    }
+    2
+}
+
+// Whether a list is a tree of 1 to 8,191 nodes: one pass that counts the trees that wait.
+pub fn is_tree(list: &[u16]) -> bool
+    ensures { λ r. ⌜ r ≡ isSome (treeOf (now (list .entry))) ⌝ }
+{
+    if MOST_NODES < list.len() {
+        return false;
+    }
+    let mut waiting: usize = 0;
+    let mut i = 0;
+    while i < list.len() {
+        let kind = entry_kind(list[i]);
+        if kind == 0 {
+            waiting += 1;
+            i += 1;
+        } else {
+            if kind != 1 {
+                return false;
+            }
+            if waiting < 2 {
+                return false;
+            }
+            waiting -= 1;
+            i += 1;
+        }
+    }
+    waiting == 1
+}
+
+// The index of the operator that takes the part that ends before `to`; the list's length where there is none.
+fn scan_onward(list: &[u16], to: usize) -> usize
+    requires { ⌜ to ≤ length (now list) ⌝ }
+    ensures { λ r. ⌜ r ≡ to + onward 0 (drop to (now (list .entry))) ⌝ }
+{
+    let mut operands: usize = 0;
+    let mut i = to;
+    while i < list.len() {
+        if UNION <= list[i] {
+            if operands < 2 {
+                return i;
+            }
+            operands -= 1;
+            i += 1;
+        } else {
+            operands += 1;
+            i += 1;
+        }
+    }
+    i
+}
+
+// The index at which the part that ends before `to` begins, by a scan back over as many leaves as operators and one more.
+fn scan_backward(list: &[u16], to: usize) -> usize
+    requires { ⌜ to ≤ length (now list) ⌝ }
+    ensures { λ r. ⌜ r ≡ backward 1 (reverse (take to (now (list .entry)))) ⌝ }
+{
+    let mut operands: usize = 1;
+    let mut i = to;
+    while 0 < i {
+        i -= 1;
+        if UNION <= list[i] {
+            operands += 1;
+        } else {
+            if operands <= 1 {
+                return i;
+            }
+            operands -= 1;
+        }
+    }
+    i
+}
+
+// Where the part begins that ends before `to`.
+pub fn part_start(list: &[u16], to: usize) -> usize
+    requires { ⌜ to ≤ length (now list) ⌝ }
+    ensures { λ r. ⌜ ((from : ℕ) (a : Tree) (c : List Frame) → Part (now (list .entry)) from to a c → r ≡ from) ⌝ }
+{
+    scan_backward(list, to)
+}
+
+// What is above a part: nothing, or the operator that takes it. `kind` is 0 or 1 for a left operand of a union or a
+// difference, 2 or 3 for a right one; then come the entries of the part's sibling and of its parent's part.
+pub enum Above {
+    Root,
+    Under {
+        kind: u8,
+        sibling_from: usize,
+        sibling_to: usize,
+        parent_from: usize,
+        parent_to: usize,
+    },
+}
+
+fn operator_kind(x: u16) -> u8
+    ensures { λ r. ⌜ (r ≡ operatorKind x) × (r < 2) ⌝ }
+{
+    if x == UNION { 0 } else { 1 }
+}
+
+// What is above the part that has the entries from `from` up to `to`. It passes over the sibling only.
+pub fn above_part(list: &[u16], from: usize, to: usize) -> Above
+    requires { ⌜ Located (now list) from to ⌝ }
+    ensures { λ r. ⌜ ((a : Tree) (c : List Frame) → Part (now (list .entry)) from to a c → r ≡ aboveOf from to c) ⌝ }
+{
+    let p = scan_onward(list, to);
+    if p < list.len() {
+        let k = operator_kind(list[p]);
+        if p == to {
+            let s = scan_backward(list, from);
+            Above::Under {
+                kind: 2 + k,
+                sibling_from: s,
+                sibling_to: from,
+                parent_from: s,
+                parent_to: p + 1,
+            }
+        } else {
+            Above::Under {
+                kind: k,
+                sibling_from: to,
+                sibling_to: p,
+                parent_from: from,
+                parent_to: p + 1,
+            }
+        }
+    } else {
+        Above::Root
+    }
+}
+
+// Copies all of `source` into `out` from index `at` on, and returns the index after it.
+pub fn copy(source: &[u16], out: &mut [u16], at: usize) -> usize
+    requires { ⌜ at + length (now source) ≤ length (now out) ⌝ }
+    ensures { λ r. ⌜ Wrote (now (out .entry)) at (now (out .exit)) r (now (source .entry)) ⌝ }
+{
+    let mut i = 0;
+    let mut next = at;
+    while i < source.len() {
+        out[next] = source[i];
+        next += 1;
+        i += 1;
+    }
+    next
+}
