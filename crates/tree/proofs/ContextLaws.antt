@@ -4,7 +4,7 @@ use mathlib.Core.Bool.{Bool, true, false, cond}
 use mathlib.Core.List.{List, [], _∷_, _++_, append-assoc, append-nil}
 use Prim.Native.Nat.{ℕ, _+_, _-_, _≤_, _<_}
 use native.Mathlib.Omega.{arith}
-use borrow.Author.Tests.{ltb-true, ltb-false}
+use borrow.Author.Tests.{ltb-true, ltb-false, lt-ltb, le-ltb}
 use lib.Dec.{ltb}
 use lib.ListN.{length, length-append}
 use Rattle.tree.specs.Tree.{Operator, Tree, leaf, node, postfix, size, sign, selects, apply, Equivalent, Over}
@@ -76,3 +76,31 @@ located-position t p h = omega (arith, found-at t [] p h .place)
 pub located-whole : (t : Tree) (p : ℕ) → p < size t → plug (locate t [] p .part) (locate t [] p .above) ≡ t
 unfolding plug
 located-whole t p h = found-at t [] p h .same
+
+-- the node at a part's position is that part, with that context
+locate-within : (h : Tree) (c d : List Frame) (p : ℕ) → p < size h → locate (plug h c) d (length (before c) + p) ≡ locate h (c ++ d) p
+unfolding plug before locate size
+locate-within h [] d p k = ap (locate h d) (let z : 0 + p ≡ p = omega arith in z)
+locate-within h (frame left o b ∷ c) d p k =
+    locate-within (node o h b) c d p (omega arith) ∙ rw (lt-ltb p (size h) k)
+locate-within h (frame right o b ∷ c) d p k =
+    let e : length (before c ++ postfix b) + p ≡ length (before c) + (size b + p) = omega (arith, length-append (before c) (postfix b), postfix-length b) in
+    let f : size b + p - size b ≡ p = omega arith in
+    ap (locate (plug (node o b h) c) d) e ∙ locate-within (node o b h) c d (size b + p) (omega arith)
+    ∙ rw (le-ltb (size b + p) (size b) (omega arith), lt-ltb (size b + p) (size b + size h) (omega arith), f)
+
+locate-root : (h : Tree) (c : List Frame) → locate h c (size h - 1) ≡ record { part = h; above = c }
+unfolding locate size
+locate-root (leaf g k) c = refl
+locate-root (node o l r) c =
+    let e : size l + size r + 1 - 1 ≡ size l + size r = omega arith in
+    rw (e, le-ltb (size l + size r) (size l) (omega arith), le-ltb (size l + size r) (size l + size r) (omega arith))
+
+pub locate-plug : (h : Tree) (c : List Frame) → locate (plug h c) [] (position h c) ≡ record { part = h; above = c }
+locate-plug h c =
+    let e : position h c ≡ length (before c) + (size h - 1) = omega (arith, size-positive h) in
+    ap (locate (plug h c) []) e ∙ locate-within h c [] (size h - 1) (omega (arith, size-positive h))
+    ∙ ap (λ (d : List Frame). locate h d (size h - 1)) (append-nil c) ∙ locate-root h c
+
+pub position-most : (h : Tree) (c : List Frame) → position h c < size (plug h c)
+position-most h c = omega (arith, size-plug h c, size-positive h)

@@ -80,6 +80,11 @@ unfoldable pub isIn : List ℕ → ℕ → Bool
 isIn [] x = false
 isIn (y ∷ ys) x = eqb x y || isIn ys x
 
+-- no number stands in a list twice
+unfoldable pub Distinct : List ℕ → Type 0
+Distinct [] = Unit {0}
+Distinct (x ∷ xs) = (isIn xs x ≡ false) × Distinct xs
+
 -- a list with one number more at its end, where it is not in it yet
 abbrev pub withNew : List ℕ → ℕ → List ℕ
 withNew xs x = cond (isIn xs x) xs (xs ++ (x ∷ []))

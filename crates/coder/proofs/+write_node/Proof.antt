@@ -1,0 +1,98 @@
+-- A leaf's four numbers are its code. For another node, `ready` gives what the calls for the children ask, and `writes-node` joins
+-- what they wrote with the operator's instruction. The measure is the node's entry: a child's is lower.
+use borrow.Author.Needs.{needs}
+use mathlib.Core.Path.{_∙_}
+use native.Mathlib.Omega.{arith}
+use Rattle.coder.proofs.WriterLaws.{end-inside, leaf-room, inner-node, ready, writes-leaf, writes-node}
+use Prim.Native.Nat.{ℕ, _<_}
+use borrow.Fn.Kinds.{In}
+use borrow.Fn.PlainCycle.{Measures, is, falls, and}
+use Rattle.coder.proofs.write_node.Reads as write-node
+use Rattle.coder.proofs.write_node.Kinds as write-node-kinds
+use Rattle.coder.proofs.+write_node.Lts-write_node as write-node-lts
+use Rattle.coder.proofs.children_of.Reads as children-of-reads
+use Rattle.coder.proofs.kind_of.Reads as kind-of-reads
+use Rattle.coder.proofs.put.Reads as put-reads
+use Rattle.coder.proofs.+write_node.{statement}
+use Rattle.coder.proofs.+write_node.Tie.{close}
+
+abbrev μ-write-node : Measures 4 write-node-kinds.ps ℕ
+μ-write-node κs a = a .1 .1 .1 .0
+
+abbrev write-node-at : ℕ → In 4 write-node-kinds.ps
+write-node-at t =
+    and 4 write-node-kinds.ps (is 4 write-node-kinds.ps μ-write-node t) write-node.Pre
+
+abbrev write-node-below : ℕ → In 4 write-node-kinds.ps
+write-node-below t =
+    and 4 write-node-kinds.ps (falls 4 write-node-kinds.ps _<_ μ-write-node t) write-node.Pre
+
+-- what the callees ask and tell
+abbrev calls : ℕ → write-node-lts.Claims
+calls t = (
+  put-reads.Asked,
+  put-reads.Learnt,
+  children-of-reads.Asked,
+  children-of-reads.Learnt,
+  write-node-below t,
+  write-node.Post,
+  kind-of-reads.Asked,
+  kind-of-reads.Learnt,
+)
+
+write-node-mul-x : (t : ℕ) → write-node-lts.Need-mul-x (calls t) (write-node-at t) write-node.Post
+write-node-mul-x t c = omega (arith, end-inside (c .before .before .pre .1), c .before .before .pre .1 .noted .few)
+
+write-node-shared-slice-read-x : (t : ℕ) → write-node-lts.Need-shared-slice-read-x (calls t) (write-node-at t) write-node.Post
+write-node-shared-slice-read-x t c = end-inside (c .before .before .before .pre .1)
+
+write-node-put-requires : (t : ℕ) → write-node-lts.Need-put-requires (calls t) (write-node-at t) write-node.Post
+write-node-put-requires t c κs = leaf-room (c .before .before .before .before .before .pre .1)
+
+write-node-same-length : (t : ℕ) → write-node-lts.Need-same-length (calls t) (write-node-at t) write-node.Post
+write-node-same-length t c = search needs
+
+write-node-returns : (t : ℕ) → write-node-lts.Need-returns (calls t) (write-node-at t) write-node.Post
+write-node-returns t c = writes-leaf _ _ _ (c .before .before .before .before .if1 .taken) (c .before .before .put .ensures)
+
+write-node-children-of-requires : (t : ℕ) → write-node-lts.Need-children-of-requires (calls t) (write-node-at t) write-node.Post
+write-node-children-of-requires t c κs = let I = inner-node (c .before .before .before .before .pre .1) (c .if1 .left) in (I .0, omega arith)
+
+write-node-add-other : (t : ℕ) → write-node-lts.Need-add-other (calls t) (write-node-at t) write-node.Post
+write-node-add-other t c = let I = inner-node (c .before .before .before .before .before .pre .1) (c .before .if1 .left) in omega arith
+
+write-node-write-node-requires : (t : ℕ) → write-node-lts.Need-write-node-requires (calls t) (write-node-at t) write-node.Post
+write-node-write-node-requires t c κs = let R = ready (c .before .before .before .before .before .before .pre .1) (c .before .before .if1 .left) (c .before .children-of .ensures) in (omega (arith, c .before .before .before .before .before .before .pre .0, R .less-one), R .first-call)
+
+write-node-write-node-requires-2 : (t : ℕ) → write-node-lts.Need-write-node-requires-2 (calls t) (write-node-at t) write-node.Post
+write-node-write-node-requires-2 t c κs = let R = ready (c .before .before .before .before .before .before .before .before .before .before .pre .1) (c .before .before .before .before .before .before .if1 .left) (c .before .before .before .before .before .children-of .ensures) in (omega (arith, c .before .before .before .before .before .before .before .before .before .before .pre .0, R .less-two), R .second-call _ _ (c .before .before .before .write-node .ensures))
+
+write-node-kind-of-requires : (t : ℕ) → write-node-lts.Need-kind-of-requires (calls t) (write-node-at t) write-node.Post
+write-node-kind-of-requires t c κs = search needs
+
+write-node-put-requires-2 : (t : ℕ) → write-node-lts.Need-put-requires-2 (calls t) (write-node-at t) write-node.Post
+write-node-put-requires-2 t c κs = let R = ready (c .before .before .before .before .before .before .before .before .before .before .before .before .before .before .before .pre .1) (c .before .before .before .before .before .before .before .before .before .before .before .if1 .left) (c .before .before .before .before .before .before .before .before .before .before .children-of .ensures) in R .own-room _ _ _ _ (c .before .before .before .before .before .before .before .before .write-node .ensures) (c .before .before .before .before .write-node2 .ensures)
+
+write-node-same-length-2 : (t : ℕ) → write-node-lts.Need-same-length-2 (calls t) (write-node-at t) write-node.Post
+write-node-same-length-2 t c = c .before .before .put2 .kept .0 ∙ c .before .before .before .before .before .before .before .write-node2 .kept .1 .1 .1 .1 .1 .0 ∙ c .before .before .before .before .before .before .before .before .before .before .before .write-node .kept .1 .1 .1 .1 .1 .0
+
+write-node-returns-2 : (t : ℕ) → write-node-lts.Need-returns-2 (calls t) (write-node-at t) write-node.Post
+write-node-returns-2 t c = writes-node (c .before .before .before .before .before .before .before .before .before .before .before .before .before .before .before .before .before .before .pre .1) (c .before .before .before .before .before .before .before .before .before .before .before .before .before .before .if1 .left) (c .before .before .before .before .before .before .before .before .before .before .before .before .before .children-of .ensures) (c .before .before .before .before .before .before .before .before .before .before .before .write-node .ensures) (c .before .before .before .before .before .before .before .write-node2 .ensures) (c .before .before .before .kind-of .ensures) (c .before .before .put2 .ensures)
+
+pub +write-node-spec : {M : Type 1} → statement M
++write-node-spec = close μ-write-node λ t. write-node-lts.spec (calls t)
+    (write-node-at t)
+    write-node.Post
+    (write-node-mul-x t)
+    (write-node-shared-slice-read-x t)
+    (write-node-put-requires t)
+    (write-node-same-length t)
+    (write-node-returns t)
+    (write-node-children-of-requires t)
+    (write-node-add-other t)
+    (write-node-write-node-requires t)
+    (write-node-write-node-requires-2 t)
+    (write-node-kind-of-requires t)
+    (write-node-put-requires-2 t)
+    (write-node-same-length-2 t)
+    (write-node-returns-2 t)

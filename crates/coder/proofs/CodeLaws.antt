@@ -1,0 +1,175 @@
+-- Laws of the code of a tree: one induction for all of them, its length, and what running it leaves.
+use mathlib.Core.Path.{_≡_, refl, ap, _∙_}
+use mathlib.Core.Bool.{Bool, true, false, cond}
+use mathlib.Core.List.{List, [], _∷_, _++_, append-assoc}
+use Prim.Native.Nat.{ℕ, _+_, _*_, _≤_, _<_}
+use native.Mathlib.Omega.{arith}
+use borrow.Author.Tests.{eq-eqb, ne-eqb}
+use lib.Dec.{T}
+use lib.ListN.{length, length-append}
+use Rattle.tree.specs.Tree.{Operator, union, difference, Tree, leaf, node, isGroup, size, Rig, apply, selects, selected, Over}
+use Rattle.player.specs.Instructions.{Lamps, Registers, Instruction, load, add, cut, run, numbersOf}
+use Rattle.player.specs.Laws.{run-append, numbers-append, numbers-length}
+use Rattle.coder.specs.Need.{leftFirst, first, second, inOrder, mostWaiting}
+use Rattle.coder.specs.Code.{operation, operationKind, combine, code}
+use Rattle.coder.specs.Effects.{Every, Within, Names, Loads}
+use Rattle.coder.proofs.NeedLaws.{in-order-node, in-order-by, waiting-node, waiting-need, need-positive}
+
+-- ---- one induction
+pub code-leaf : (g : ℕ) (h : T (isGroup g)) (r : ℕ) → code (leaf g h) r ≡ load r g ∷ []
+unfolding code inOrder
+code-leaf g h r = refl
+
+pub code-node : (o : Operator) (l r : Tree) (k : ℕ) → code (node o l r) k ≡ code (first l r) k ++ (code (second l r) (k + 1) ++ (combine k o (leftFirst l r) ∷ []))
+unfolding code
+code-node o l r k = in-order-node (λ r g. load r g ∷ []) (λ r o f x y. x ++ (y ++ (combine r o f ∷ []))) k o l r
+
+pub code-by : (P : ℕ → Tree → List Instruction → Type 0)
+    → ((k g : ℕ) (h : T (isGroup g)) → P k (leaf g h) (load k g ∷ []))
+    → ((k : ℕ) (o : Operator) (l r : Tree) (x y : List Instruction) → P k (first l r) x → P (k + 1) (second l r) y → P k (node o l r) (x ++ (y ++ (combine k o (leftFirst l r) ∷ []))))
+    → (t : Tree) (k : ℕ) → P k t (code t k)
+unfolding code
+code-by P a b t k = in-order-by (λ r g. load r g ∷ []) (λ r o f x y. x ++ (y ++ (combine r o f ∷ []))) P a b k t
+
+-- ---- length
+pub size-node : (o : Operator) (l r : Tree) → size (node o l r) ≡ size (first l r) + size (second l r) + 1
+unfolding size
+size-node o l r = go (leftFirst l r)
+  where
+    go : (f : Bool) → size l + size r + 1 ≡ size (cond f l r) + size (cond f r l) + 1
+    go true = refl
+    go false = omega arith
+
+pub length-code : (t : Tree) (k : ℕ) → length (code t k) ≡ size t
+length-code =
+    code-by (λ k t is. length is ≡ size t) (λ k g h. unfold size in refl)
+    (λ k o l r x y p q. simp length-append (omega (arith, size-node o l r)))
+
+pub length-numbers : (t : Tree) (k : ℕ) → length (numbersOf (code t k)) ≡ 4 * size t
+length-numbers t k = numbers-length (code t k) ∙ ap (λ (n : ℕ). 4 * n) (length-code t k)
+
+-- ---- numbers
+pub operation-numbers : (o : Operator) (k a b : ℕ) → numbersOf (operation o k a b ∷ []) ≡ operationKind o ∷ k ∷ a ∷ b ∷ []
+unfolding numbersOf
+operation-numbers union k a b = refl
+operation-numbers difference k a b = refl
+
+pub numbers-leaf : (g : ℕ) (h : T (isGroup g)) (k : ℕ) → numbersOf (code (leaf g h) k) ≡ 1 ∷ k ∷ g ∷ 0 ∷ []
+unfolding numbersOf
+numbers-leaf g h k = ap numbersOf (code-leaf g h k)
+
+pub numbers-node : (o : Operator) (l r : Tree) (k a b : ℕ) → a ≡ cond (leftFirst l r) k (k + 1) → b ≡ cond (leftFirst l r) (k + 1) k
+    → (numbersOf (code (first l r) k) ++ numbersOf (code (second l r) (k + 1))) ++ (operationKind o ∷ k ∷ a ∷ b ∷ []) ≡ numbersOf (code (node o l r) k)
+numbers-node o l r k a b e f =
+    rw (code-node o l r k, numbers-append, numbers-append, operation-numbers, e, f) (simp append-assoc)
+
+-- ---- what a run leaves
+-- whatever the registers are, afterwards the target holds what the tree selects, and those below are as they were
+pub record Leaves (rig : Rig) (t : Tree) (k : ℕ) (is : List Instruction) : Type 0 where
+  pub target : (R : Registers) → run rig is R k ≡ selected rig t
+  pub below : (R : Registers) (q : ℕ) → q < k → run rig is R q ≡ R q
+
+module _ (rig : Rig) where
+  operation-target : (o : Operator) (R : Registers) (k a b : ℕ) (f g : Lamps) → R a ≡ f → R b ≡ g → run rig (operation o k a b ∷ []) R k ≡ (λ lamp. apply o (f lamp) (g lamp))
+  unfolding run
+  operation-target union R k a b f g x y = rw (eq-eqb k k refl, x, y)
+  operation-target difference R k a b f g x y = rw (eq-eqb k k refl, x, y)
+
+  operation-below : (o : Operator) (R : Registers) (k a b q : ℕ) → q < k → run rig (operation o k a b ∷ []) R q ≡ R q
+  unfolding run
+  operation-below union R k a b q h = rw (ne-eqb q k (λ e. omega arith))
+  operation-below difference R k a b q h = rw (ne-eqb q k (λ e. omega arith))
+
+  left-operand : (f : Bool) (l r : Tree) (R : Registers) (k : ℕ) → R k ≡ selected rig (cond f l r) → R (k + 1) ≡ selected rig (cond f r l) → R (cond f k (k + 1)) ≡ selected rig l
+  left-operand true l r R k p q = p
+  left-operand false l r R k p q = q
+
+  right-operand : (f : Bool) (l r : Tree) (R : Registers) (k : ℕ) → R k ≡ selected rig (cond f l r) → R (k + 1) ≡ selected rig (cond f r l) → R (cond f (k + 1) k) ≡ selected rig r
+  right-operand true l r R k p q = q
+  right-operand false l r R k p q = p
+
+  run-three : (x y z : List Instruction) (R : Registers) → run rig (x ++ (y ++ z)) R ≡ run rig z (run rig y (run rig x R))
+  run-three x y z R = run-append rig x (y ++ z) R ∙ run-append rig y z (run rig x R)
+
+  leaves-node : (k : ℕ) (o : Operator) (l r : Tree) (x y : List Instruction) → Leaves rig (first l r) k x → Leaves rig (second l r) (k + 1) y
+      → Leaves rig (node o l r) k (x ++ (y ++ (combine k o (leftFirst l r) ∷ [])))
+  unfolding selects
+  leaves-node k o l r x y p q = record {
+    target = λ R.
+        let S : Registers = run rig y (run rig x R) in
+        let u : S k ≡ selected rig (first l r) = q .below (run rig x R) k (omega arith) ∙ p .target R in
+        let v : S (k + 1) ≡ selected rig (second l r) = q .target (run rig x R) in
+        run-three-at R k
+        ∙ operation-target o S k _ _ (selected rig l) (selected rig r) (left-operand (leftFirst l r) l r S k u v) (right-operand (leftFirst l r) l r S k u v);
+    below = λ R n h. run-three-at R n ∙ operation-below o (run rig y (run rig x R)) k _ _ n h ∙ q .below (run rig x R) n (omega arith) ∙ p .below R n h;
+  }
+    where
+      run-three-at : (R : Registers) (n : ℕ) → run rig (x ++ (y ++ (combine k o (leftFirst l r) ∷ []))) R n ≡ run rig (combine k o (leftFirst l r) ∷ []) (run rig y (run rig x R)) n
+      run-three-at R n = ap (λ (S : Registers). S n) (run-three x y (combine k o (leftFirst l r) ∷ []) R)
+
+  pub leaves : (t : Tree) (k : ℕ) → Leaves rig t k (code t k)
+  leaves =
+      code-by (λ k t is. Leaves rig t k is)
+      (λ k g h. record { target = λ R. unfold run selects in rw (eq-eqb k k refl); below = λ R q lt. unfold run in rw (ne-eqb q k (λ e. omega arith)) })
+      leaves-node
+
+-- ---- the registers that are named
+pub every-append : (P : Instruction → Type 0) (xs ys : List Instruction) → Every P xs → Every P ys → Every P (xs ++ ys)
+unfolding Every
+every-append P [] ys p q = q
+every-append P (x ∷ xs) ys p q = (p .0, every-append P xs ys (p .1) q)
+
+pub every-implies : {P Q : Instruction → Type 0} → ((i : Instruction) → P i → Q i) → (is : List Instruction) → Every P is → Every Q is
+unfolding Every
+every-implies f [] p = tt
+every-implies f (i ∷ is) p = (f i (p .0), every-implies f is (p .1))
+
+module _ (low low′ high high′ : ℕ) (p : low ≤ low′) (q : high′ ≤ high) where
+  wider-one : (n : ℕ) → Within low′ high′ n → Within low high n
+  wider-one n w = record { from = omega (arith, w .from); below = omega (arith, w .below) }
+
+  pub wider : (i : Instruction) → Names low′ high′ i → Names low high i
+  wider (load t g) h = wider-one t h
+  wider (add t a b) h = (wider-one t (h .0), wider-one a (h .1), wider-one b (h .2))
+  wider (cut t a b) h = (wider-one t (h .0), wider-one a (h .1), wider-one b (h .2))
+
+operation-names : (o : Operator) (low high k a b : ℕ) → Within low high k → Within low high a → Within low high b → Every (Names low high) (operation o k a b ∷ [])
+unfolding Every
+operation-names union low high k a b p q r = ((p, q, r), tt)
+operation-names difference low high k a b p q r = ((p, q, r), tt)
+
+within-cond : (f : Bool) (low high a b : ℕ) → Within low high a → Within low high b → Within low high (cond f a b)
+within-cond true low high a b p q = p
+within-cond false low high a b p q = q
+
+pub names-waiting : (t : Tree) (k : ℕ) → Every (Names k (mostWaiting k t)) (code t k)
+names-waiting =
+    code-by (λ k t is. Every (Names k (mostWaiting k t)) is)
+    (λ k g h. unfold Every inOrder in (record { from = omega arith; below = omega arith }, tt))
+    (λ k o l r x y p q.
+    let N : ℕ = mostWaiting k (node o l r) in
+    let w = waiting-node k o l r in
+    let n₁ : k + 1 < N = omega (arith, waiting-need (k + 1) (second l r), need-positive (second l r)) in
+    let here : Within k N k = record { from = omega arith; below = omega arith } in
+    let next : Within k N (k + 1) = record { from = omega arith; below = n₁ } in
+    every-append (Names k N) x _ (every-implies (wider k k N (mostWaiting k (first l r)) (omega arith) (omega arith)) x p)
+    (every-append (Names k N) y _ (every-implies (wider k (k + 1) N (mostWaiting (k + 1) (second l r)) (omega arith) (omega arith)) y q)
+    (operation-names o k N k _ _ here (within-cond (leftFirst l r) k N k (k + 1) here next) (within-cond (leftFirst l r) k N (k + 1) k next here))))
+
+-- ---- the groups that are loaded
+operation-loads : (m : ℕ → Bool) (o : Operator) (k a b : ℕ) → Every (Loads m) (operation o k a b ∷ [])
+unfolding Every
+operation-loads m union k a b = (tt, tt)
+operation-loads m difference k a b = (tt, tt)
+
+over-cond : (m : ℕ → Bool) (f : Bool) (l r : Tree) → Over m l → Over m r → Over m (cond f l r)
+over-cond m true l r p q = p
+over-cond m false l r p q = q
+
+pub loads : (m : ℕ → Bool) (t : Tree) (k : ℕ) → Over m t → Every (Loads m) (code t k)
+loads m =
+    code-by (λ k t is. Over m t → Every (Loads m) is)
+    (λ k g h o. unfold Every Over in (o, tt))
+    (λ k o l r x y p q h. unfold Over in
+    every-append (Loads m) x _ (p (over-cond m (leftFirst l r) l r (h .0) (h .1)))
+    (every-append (Loads m) y _ (q (over-cond m (leftFirst l r) r l (h .1) (h .0))) (operation-loads m o k _ _)))

@@ -1,0 +1,223 @@
+-- What `encode` and `run_of` answer: the root's part is the whole list; and going down from the root to the node at a position,
+-- each step adds what stands before the child's code in that of its parent.
+use mathlib.Core.Path.{_≡_, refl, sym, ap, _∙_}
+use mathlib.Core.Bool.{Bool, true, false, cond}
+use mathlib.Core.Option.{some}
+use mathlib.Core.List.{List, [], _∷_, _++_}
+use Prim.Native.Nat.{ℕ, _+_, _-_, _≤_, _<_}
+use native.Mathlib.Omega.{arith}
+use borrow.Author.Tests.{lt-ltb, le-ltb, ltb-true, ltb-false}
+use lib.Dec.{ltb}
+use lib.ListN.{length, getD, length-append}
+use Rattle.tree.specs.Tree.{Operator, Tree, leaf, node, size}
+use Rattle.tree.specs.Context.{left, right, Frame, frame, plug, before}
+use Rattle.tree.specs.Parse.{treeOf, isSome, locate}
+use Rattle.tree.specs.Writing.{over}
+use Rattle.tree.proofs.TreeLaws.{size-positive, postfix-length}
+use Rattle.tree.proofs.ParseLaws.{IsTree, the-tree, no-tree-of}
+use Rattle.tree.proofs.WritingLaws.{wrote-over}
+use Rattle.coder.specs.Need.{leftFirst}
+use Rattle.coder.specs.Code.{code, codeNumbers, codePlace, runFirst}
+use Rattle.coder.specs.Notes.{NodeAt, Noted, middle, leftIsFirst, Inner, Stepped, Writable}
+use Rattle.coder.specs.Coding.{leastBuffer, Encodes, IsRun}
+use Rattle.coder.specs.declared.Coded.{Coded}
+use Rattle.coder.specs.declared.Coded.the-variants.{Done, Refused}
+use Rattle.coder.proofs.NeedLaws.{need-most}
+use Rattle.coder.proofs.CodeLaws.{length-code, length-numbers}
+use Rattle.coder.proofs.RunLaws.{code-stands, before-left, before-right}
+use Rattle.coder.proofs.NoteLaws.{Split, split, left-node, right-node, node-at, node-inside}
+use Rattle.coder.proofs.WriterLaws.{Writes}
+
+-- ---- the root
+tree-length : {l : List ℕ} (I : IsTree l) → length l ≡ size (I .tree)
+tree-length I = ap length (I .list) ∙ postfix-length (I .tree)
+
+root-node : {l : List ℕ} (I : IsTree l) → NodeAt l (length l - 1) (I .tree)
+unfolding plug before
+root-node I =
+    let e = tree-length I in
+    record { from = 0; above = []; is = record { whole = I .list; begins = refl; ends = omega (arith, size-positive (I .tree)) } }
+
+pub some-node : (l : List ℕ) → isSome (treeOf l) ≡ true → 1 ≤ length l
+some-node l h = let I = the-tree l h in omega (arith, tree-length I, size-positive (I .tree))
+
+pub root-writable : (l s n out : List ℕ) → isSome (treeOf l) ≡ true → Noted l s n → leastBuffer ≤ length out → Writable l s n (length l - 1) 0 out 0
+root-writable l s n out h N q =
+    let I = the-tree l h in
+    record { part = I .tree; root = root-node I; noted = N; registers = omega (arith, need-most (I .tree) (I .most)); room = omega (arith, I .most) }
+
+-- ---- the answers of `encode`
+module _ (tree out : List ℕ) where
+  pub too-short : length out < leastBuffer → Encodes tree out (Refused 20) out
+  too-short h = let z = lt-ltb (length out) leastBuffer h in record { numbered = rw z; counted = rw z; answered = rw z; written = rw z }
+
+  pub not-a-tree : leastBuffer ≤ length out → isSome (treeOf tree) ≡ false → Encodes tree out (Refused 12) out
+  not-a-tree h e = let z = le-ltb (length out) leastBuffer h in record { numbered = rw (z, e); counted = rw (z, e); answered = rw (z, e); written = rw (z, e) }
+
+  pub all-written : {after : List ℕ} {next : ℕ} → leastBuffer ≤ length out → isSome (treeOf tree) ≡ true → Writes tree (length tree - 1) 0 out 0 after next
+      → Encodes tree out (Done (length tree)) after
+  all-written {after} {next} h e w =
+      let I = the-tree tree e in
+      let z = le-ltb (length out) leastBuffer h in
+      let n : length tree ≡ length (code (I .tree) 0) = tree-length I ∙ sym (length-code (I .tree) 0) in
+      let L = length-numbers (I .tree) 0 in
+      record {
+        numbered = rw (z, I .is);
+        counted = rw (z, I .is) n;
+        answered = rw (z, I .is) (ap Done n);
+        written = rw (z, I .is) (wrote-over (w (I .tree) (root-node I)) (omega (arith, I .most)));
+      }
+
+-- what a caller who knows the tree and lent enough learns
+pub encodes-tree : {tree out after : List ℕ} {r : Coded} {t : Tree} → Encodes tree out r after → treeOf tree ≡ some t → leastBuffer ≤ length out
+    → (r ≡ Done (size t)) × (after ≡ over (codeNumbers t) out)
+encodes-tree {tree} {out} {after} {r} {t} E e h =
+    let z = le-ltb (length out) leastBuffer h in
+    (E .answered ∙ rw (z, e) (ap Done (length-code t 0)), E .written ∙ rw (z, e))
+
+-- ---- going down to the node at a position
+-- the node at `end` has the position in its part, and its code begins with instruction number `first`
+pub record Descent (l : List ℕ) (position end first : ℕ) : Type 0 where
+  pub tree : Tree
+  pub is : treeOf l ≡ some tree
+  pub part : Tree
+  pub root : NodeAt l end part
+  pub low : root .from ≤ position
+  pub high : position ≤ end
+  pub sought : locate tree [] position ≡ locate part (root .above) (position - root .from)
+  pub begins : first ≡ runFirst part (root .above)
+
+pub descent-start : (l : List ℕ) (p : ℕ) → isSome (treeOf l) ≡ true → p < length l → Descent l p (length l - 1) 1
+unfolding root-node codePlace
+descent-start l p h lt =
+    let I = the-tree l h in
+    record { tree = I .tree; is = I .is; part = I .tree; root = root-node I; low = omega arith; high = omega arith; sought = ap (locate (I .tree) []) (omega arith); begins = refl }
+
+-- no further than the whole code
+pub descent-few : {l : List ℕ} {p e b : ℕ} → Descent l p e b → b ≤ length l + 1
+descent-few {l} {p} {e} {b} D =
+    let c = D .root .above in
+    let P = codePlace (D .part) c 0 in
+    let u : length l ≡ size (plug (D .part) c) = ap length (D .root .is .whole) ∙ postfix-length (plug (D .part) c) in
+    let w : length (code (plug (D .part) c) 0) ≡ length (P .before ++ (code (D .part) (P .target) ++ P .behind)) = ap length (code-stands (D .part) c 0) in
+    omega (arith, D .begins, length-code (plug (D .part) c) 0, length-append (P .before) (code (D .part) (P .target) ++ P .behind))
+
+locate-left : (o : Operator) (x y : Tree) (c : List Frame) (p : ℕ) → p < size x → locate (node o x y) c p ≡ locate x (frame left o y ∷ c) p
+unfolding locate
+locate-left o x y c p h = rw (lt-ltb p (size x) h)
+
+locate-right : (o : Operator) (x y : Tree) (c : List Frame) (p q : ℕ) → p ≡ size x + q → q < size y → locate (node o x y) c p ≡ locate y (frame right o x ∷ c) q
+unfolding locate
+locate-right o x y c p q e h =
+    let z : p - size x ≡ q = omega arith in
+    rw (le-ltb p (size x) (omega arith), lt-ltb p (size x + size y) (omega arith), z)
+
+locate-here : (a : Tree) (c : List Frame) (p : ℕ) → p + 1 ≡ size a → locate a c p ≡ record { part = a; above = c }
+unfolding locate size
+locate-here (leaf g h) c p e = refl
+locate-here (node o x y) c p e = rw (le-ltb p (size x) (omega (arith, size-positive y)), le-ltb p (size x + size y) (omega arith))
+
+module _ {l s n : List ℕ} {p e b next more : ℕ} (N : Noted l s n) (lt : p < e) where
+  -- the two steps down from the node with the children x and y
+  module _ (t : Tree) (is : treeOf l ≡ some t) (o : Operator) (x y : Tree) (v : NodeAt l e (node o x y)) (low : v .from ≤ p)
+      (sought : locate t [] p ≡ locate (node o x y) (v .above) (p - v .from)) (begins : b ≡ runFirst (node o x y) (v .above)) (S : Split l s n e o x y v) where
+    to-left : p < middle s e → next ≡ middle s e - 1 → more ≡ cond (leftIsFirst s n e) 0 (e - middle s e) → Descent l p next (b + more)
+    unfolding left-node
+    to-left h i j =
+        let m = S .begins in
+        let ends = S .ends in
+        let z : e - middle s e ≡ size y = omega arith in
+        let passed : more ≡ cond (leftFirst x y) 0 (size y) = j ∙ rw (S .order, z) in
+        record {
+          tree = t;
+          is = is;
+          part = x;
+          root = left-node v next (omega (arith, size-positive x));
+          low = low;
+          high = omega arith;
+          sought = sought ∙ locate-left o x y (v .above) (p - v .from) (omega arith);
+          begins = omega (arith, before-left o x y (v .above) 0, passed);
+        }
+
+    to-right : middle s e ≤ p → next ≡ e - 1 → more ≡ cond (leftIsFirst s n e) (middle s e - getD s (middle s e - 1) 0) 0 → Descent l p next (b + more)
+    unfolding right-node
+    to-right h i j =
+        let m = S .begins in
+        let ends = S .ends in
+        let z : middle s e - getD s (middle s e - 1) 0 ≡ size x = omega (arith, S .left-start) in
+        let passed : more ≡ cond (leftFirst x y) (size x) 0 = j ∙ rw (S .order, z) in
+        rw i (record {
+          tree = t;
+          is = is;
+          part = y;
+          root = right-node v;
+          low = omega arith;
+          high = omega arith;
+          sought = sought ∙ locate-right o x y (v .above) (p - v .from) (p - (v .from + size x)) (omega arith) (omega arith);
+          begins = omega (arith, before-right o x y (v .above) 0, passed);
+        })
+
+  pub descend : Descent l p e b → Stepped s n e p next more → Descent l p next (b + more)
+  descend D T = go (D .part) (D .root) (D .low) (D .sought) (D .begins) (ltb p (middle s e)) refl
+    where
+      go : (a : Tree) (v : NodeAt l e a) → v .from ≤ p → locate (D .tree) [] p ≡ locate a (v .above) (p - v .from) → b ≡ runFirst a (v .above)
+          → (w : Bool) → ltb p (middle s e) ≡ w → Descent l p next (b + more)
+      go (leaf g h) v low q c w k = absurd (unfold size in omega (arith, v .is .ends))
+      go (node o x y) v low q c true k =
+          let S = split v (N .all) (omega (arith, node-inside v)) in
+          to-left (D .tree) (D .is) o x y v low q c S (ltb-true p (middle s e) k) (T .child ∙ rw k) (T .passed ∙ rw k)
+      go (node o x y) v low q c false k =
+          let S = split v (N .all) (omega (arith, node-inside v)) in
+          to-right (D .tree) (D .is) o x y v low q c S (ltb-false p (middle s e) k) (T .child ∙ rw k) (T .passed ∙ rw k)
+
+pub stepped-less : {s n : List ℕ} {p e next more : ℕ} → Inner s e → Stepped s n e p next more → next < e
+stepped-less {s} {n} {p} {e} {next} {more} I T = rw (T .child) (go (ltb p (middle s e)))
+  where
+    go : (f : Bool) → cond f (middle s e - 1) (e - 1) < e
+    go true = omega (arith, I .right)
+    go false = omega (arith, I .right)
+
+pub descent-inner : {l s n : List ℕ} {p e b : ℕ} → Noted l s n → p < e → Descent l p e b → Inner s e
+descent-inner {l} {s} {n} {p} {e} N lt D = go (D .part) (D .root) (D .low)
+  where
+    go : (a : Tree) (v : NodeAt l e a) → v .from ≤ p → Inner s e
+    go (leaf g h) v low = absurd (unfold size in omega (arith, v .is .ends))
+    go (node o x y) v low = split v (N .all) (omega (arith, node-inside v)) .inner (omega (arith, node-inside v, N .few))
+
+pub descent-end : {l : List ℕ} {p e b : ℕ} → e ≤ p → Descent l p e b → (t : Tree) → treeOf l ≡ some t → b ≡ runFirst (locate t [] p .part) (locate t [] p .above)
+descent-end {l} {p} {e} {b} h D t q =
+    let z : some (D .tree) ≡ some t = sym (D .is) ∙ q in
+    let same : D .tree ≡ t = cc in
+    let w : locate t [] p ≡ record { part = D .part; above = D .root .above } =
+    ap (λ (u : Tree). locate u [] p) (sym same) ∙ D .sought ∙ locate-here (D .part) (D .root .above) (p - D .root .from) (omega (arith, D .high, D .low, D .root .is .ends)) in
+    rw w (D .begins)
+
+-- ---- the answers of `run_of`
+module _ (l : List ℕ) (p : ℕ) where
+  pub no-such-tree : isSome (treeOf l) ≡ false → IsRun l p (record { first = 0; count = 0 })
+  no-such-tree h = let z = no-tree-of l h in record { first = rw z; count = rw z }
+
+  pub no-such-node : length l ≤ p → IsRun l p (record { first = 0; count = 0 })
+  no-such-node h = go (isSome (treeOf l)) refl
+    where
+      go : (b : Bool) → isSome (treeOf l) ≡ b → IsRun l p (record { first = 0; count = 0 })
+      go true e =
+          let I = the-tree l e in
+          let z = le-ltb p (size (I .tree)) (omega (arith, tree-length I)) in
+          record { first = rw (I .is, z); count = rw (I .is, z) }
+      go false e = no-such-tree e
+
+  -- where the node's part begins
+  pub part-start : {s n : List ℕ} (e : isSome (treeOf l) ≡ true) → Noted l s n → p < length l → getD s p 0 + size (locate (the-tree l e .tree) [] p .part) ≡ p + 1
+  part-start e N h = let v = node-at (the-tree l e) p h in omega (arith, N .all .start p _ v h, v .is .ends)
+
+  pub the-run : {s n : List ℕ} {b : ℕ} → isSome (treeOf l) ≡ true → Noted l s n → p < length l
+      → ((t : Tree) → treeOf l ≡ some t → b ≡ runFirst (locate t [] p .part) (locate t [] p .above))
+      → IsRun l p (record { first = b; count = p + 1 - getD s p 0 })
+  the-run e N h f =
+      let I = the-tree l e in
+      let z = lt-ltb p (size (I .tree)) (omega (arith, tree-length I)) in
+      record {
+        first = rw (I .is, z) (f (I .tree) (I .is));
+        count = rw (I .is, z) (omega (arith, part-start e N h, length-code (locate (I .tree) [] p .part) (codePlace (locate (I .tree) [] p .part) (locate (I .tree) [] p .above) 0 .target)));
+      }

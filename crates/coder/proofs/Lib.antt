@@ -1,0 +1,8 @@
+-- The theorems about the code of a tree, in Theorems; and the laws of the definitions in specs/, for this crate and those above.
+pub mod NeedLaws
+pub mod CodeLaws
+pub mod RunLaws
+pub mod Theorems
+pub mod NoteLaws
+pub mod WriterLaws
+pub mod CodingLaws

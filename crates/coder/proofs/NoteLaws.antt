@@ -1,0 +1,217 @@
+-- Notes of a tree's nodes. A node's part tells the parts of its children, so the notes of the nodes before it tell its own,
+-- which child comes first, and what the writer leaves.
+use mathlib.Core.Path.{_≡_, refl, sym, ap, ap₂, _∙_}
+use mathlib.Core.Bool.{Bool, true, false}
+use mathlib.Core.List.{List, [], _∷_, _++_, append-assoc}
+use Prim.Native.Nat.{ℕ, _+_, _-_, _≤_, _<_}
+use native.Mathlib.Omega.{arith}
+use borrow.Author.Tests.{eqb-true, eqb-false, le-leb, lt-leb, lt-ltb, le-ltb}
+use lib.Dec.{T, eqb, leb}
+use lib.ListN.{length, getD, set, length-append}
+use lib.Seq.{getD-at, getD-set-same, getD-set-other}
+use Rattle.tree.specs.Tree.{Operator, union, difference, Tree, leaf, node, isGroup, sign, postfix, size, mostNodes}
+use Rattle.tree.specs.Context.{left, right, frame, plug, before, after}
+use Rattle.tree.specs.Parse.{treeOf, isSome, locate}
+use Rattle.tree.specs.Part.{Part}
+use Rattle.tree.proofs.TreeLaws.{size-positive, postfix-length, group-most}
+use Rattle.tree.proofs.ParseLaws.{IsTree, the-tree}
+use Rattle.tree.proofs.PartLaws.{part-list, part-length, part-of-place}
+use Rattle.coder.specs.Need.{needOf, need, leftFirst}
+use Rattle.coder.specs.Notes.{NodeAt, NotedBelow, middle, leftIsFirst, Inner, Ordered, Stepped}
+use Rattle.coder.proofs.NeedLaws.{need-most}
+
+-- ---- a part's own entry
+pub entry-leaf : {l : List ℕ} {e g : ℕ} {h : T (isGroup g)} → NodeAt l e (leaf g h) → getD l e 0 ≡ g
+unfolding postfix size
+entry-leaf {l} {e} {g} {h} v =
+    ap (λ (x : List ℕ). getD x e 0) (part-list (v .is)) ∙ getD-at (before (v .above)) g (after (v .above)) 0 e (omega (arith, v .is .begins, v .is .ends))
+
+pub entry-node : {l : List ℕ} {e : ℕ} {o : Operator} {x y : Tree} → NodeAt l e (node o x y) → getD l e 0 ≡ sign o
+unfolding postfix size
+entry-node {l} {e} {o} {x} {y} v =
+    ap (λ (z : List ℕ). getD z e 0) (part-list (v .is) ∙ regroup (before (v .above)) (after (v .above)))
+    ∙ getD-at (before (v .above) ++ (postfix x ++ postfix y)) (sign o) (after (v .above)) 0 e
+    (length-append (before (v .above)) (postfix x ++ postfix y) ∙ omega (arith, length-append (postfix x) (postfix y), postfix-length x, postfix-length y, v .is .begins, v .is .ends))
+  where
+    regroup : (p q : List ℕ) → p ++ ((postfix x ++ (postfix y ++ (sign o ∷ []))) ++ q) ≡ (p ++ (postfix x ++ postfix y)) ++ (sign o ∷ q)
+    regroup p q = simp append-assoc
+
+sign-high : (o : Operator) → sign union ≤ sign o
+sign-high union = omega arith
+sign-high difference = omega arith
+
+-- the part of a node whose entry is below the operators is a leaf
+pub as-leaf : {l : List ℕ} {e : ℕ} (a : Tree) → NodeAt l e a → getD l e 0 < sign union → (h : T (isGroup (getD l e 0))) × (a ≡ leaf (getD l e 0) h)
+as-leaf {l} {e} (leaf g h) v lt = rw (entry-leaf v) (h, refl)
+as-leaf {l} {e} (node o x y) v lt = absurd (omega (arith, entry-node v, sign-high o))
+
+-- ---- the parts of a node's children
+module _ {l : List ℕ} {e : ℕ} {o : Operator} {x y : Tree} (v : NodeAt l e (node o x y)) where
+  pub node-ends : e ≡ v .from + size x + size y
+  unfolding size
+  node-ends = omega (arith, v .is .ends)
+
+  pub right-part : Part l (v .from + size x) (e - 1 + 1) y (frame right o x ∷ v .above)
+  unfolding plug before
+  right-part = record {
+    whole = v .is .whole;
+    begins = omega (arith, v .is .begins, length-append (before (v .above)) (postfix x), postfix-length x);
+    ends = omega (arith, node-ends, size-positive y);
+  }
+
+  pub left-part : (d : ℕ) → d + 1 ≡ v .from + size x → Part l (v .from) (d + 1) x (frame left o y ∷ v .above)
+  unfolding plug before
+  left-part d h = record { whole = v .is .whole; begins = v .is .begins; ends = h }
+
+  unfoldable pub right-node : NodeAt l (e - 1) y
+  right-node = record { from = v .from + size x; above = frame right o x ∷ v .above; is = right-part }
+
+  unfoldable pub left-node : (d : ℕ) → d + 1 ≡ v .from + size x → NodeAt l d x
+  left-node d h = record { from = v .from; above = frame left o y ∷ v .above; is = left-part d h }
+
+-- a node's entry is inside the list
+pub node-inside : {l : List ℕ} {e : ℕ} {a : Tree} → NodeAt l e a → e < length l
+node-inside v = omega (arith, part-length (v .is))
+
+-- what the notes of the nodes before a node tell of it
+pub record Split (l s n : List ℕ) (e : ℕ) (o : Operator) (x y : Tree) (v : NodeAt l e (node o x y)) : Type 0 where
+  pub begins : middle s e ≡ v .from + size x
+  pub ends : e ≡ v .from + size x + size y
+  pub right-at : NodeAt l (e - 1) y
+  pub left-at : NodeAt l (middle s e - 1) x
+  pub right-need : getD n (e - 1) 0 ≡ need y
+  pub left-need : getD n (middle s e - 1) 0 ≡ need x
+  pub left-start : getD s (middle s e - 1) 0 ≡ v .from
+  pub order : leftIsFirst s n e ≡ leftFirst x y
+  pub inner : e < mostNodes → Inner s e
+
+pub split : {l s n : List ℕ} {e i : ℕ} {o : Operator} {x y : Tree} (v : NodeAt l e (node o x y)) → NotedBelow l s n i → e ≤ i → Split l s n e o x y v
+unfolding right-node left-node
+split {l} {s} {n} {e} {i} {o} {x} {y} v N h =
+    let E = node-ends v in
+    let px = size-positive x in
+    let py = size-positive y in
+    let m : middle s e ≡ v .from + size x = N .start (e - 1) y (right-node v) (omega arith) in
+    let L : NodeAt l (middle s e - 1) x = left-node v (middle s e - 1) (omega arith) in
+    let p : getD n (e - 1) 0 ≡ need y = N .needed (e - 1) y (right-node v) (omega arith) in
+    let q : getD n (middle s e - 1) 0 ≡ need x = N .needed (middle s e - 1) x L (omega arith) in
+    let b : getD s (middle s e - 1) 0 ≡ v .from = N .start (middle s e - 1) x L (omega arith) in
+    record {
+      begins = m;
+      ends = E;
+      right-at = right-node v;
+      left-at = L;
+      right-need = p;
+      left-need = q;
+      left-start = b;
+      order = ap₂ leb p q;
+      inner = λ k. record { high = k; left = omega arith; right = omega arith; low = omega arith };
+    }
+
+-- ---- the pass that notes
+pub noted-none : (l s n : List ℕ) → NotedBelow l s n 0
+noted-none l s n = record { start = λ e a v h. absurd (omega arith); needed = λ e a v h. absurd (omega arith) }
+
+module _ {l s n : List ℕ} {i : ℕ} (N : NotedBelow l s n i) (p : i < length s) (q : i < length n) where
+  noted-next : (b w : ℕ) → ((e : ℕ) (a : Tree) (v : NodeAt l e a) → e ≡ i → (b ≡ v .from) × (w ≡ need a)) → NotedBelow l (set s i b) (set n i w) (i + 1)
+  noted-next b w here = record {
+    start = λ e a v h. one e a v h (eqb e i) refl;
+    needed = λ e a v h. two e a v h (eqb e i) refl;
+  }
+    where
+      one : (e : ℕ) (a : Tree) (v : NodeAt l e a) → e < i + 1 → (x : Bool) → eqb e i ≡ x → getD (set s i b) e 0 ≡ v .from
+      one e a v h true k = ap (λ (j : ℕ). getD (set s i b) j 0) (eqb-true e i k) ∙ getD-set-same s i b 0 p ∙ here e a v (eqb-true e i k) .0
+      one e a v h false k = getD-set-other s i e b 0 (eqb-false e i k) ∙ N .start e a v (omega (arith, eqb-false e i k))
+
+      two : (e : ℕ) (a : Tree) (v : NodeAt l e a) → e < i + 1 → (x : Bool) → eqb e i ≡ x → getD (set n i w) e 0 ≡ need a
+      two e a v h true k = ap (λ (j : ℕ). getD (set n i w) j 0) (eqb-true e i k) ∙ getD-set-same n i w 0 q ∙ here e a v (eqb-true e i k) .1
+      two e a v h false k = getD-set-other n i e w 0 (eqb-false e i k) ∙ N .needed e a v (omega (arith, eqb-false e i k))
+
+  pub noted-leaf : getD l i 0 < sign union → NotedBelow l (set s i i) (set n i 1) (i + 1)
+  noted-leaf h = noted-next i 1 (λ e a v z. go e a v z (rw z h))
+    where
+      go : (e : ℕ) (a : Tree) (v : NodeAt l e a) → e ≡ i → getD l e 0 < sign union → (i ≡ v .from) × (1 ≡ need a)
+      go e (leaf g k) v z lt = unfold size need in (omega (arith, v .is .ends), refl)
+      go e (node o x y) v z lt = absurd (omega (arith, entry-node v, sign-high o))
+
+  pub noted-node : sign union ≤ getD l i 0 → NotedBelow l (set s i (getD s (middle s i - 1) 0)) (set n i (needOf (getD n (middle s i - 1) 0) (getD n (i - 1) 0))) (i + 1)
+  noted-node h = noted-next _ _ (λ e a v z. go e a v z (rw z h))
+    where
+      go : (e : ℕ) (a : Tree) (v : NodeAt l e a) → e ≡ i → sign union ≤ getD l e 0
+          → (getD s (middle s i - 1) 0 ≡ v .from) × (needOf (getD n (middle s i - 1) 0) (getD n (i - 1) 0) ≡ need a)
+      go e (leaf g k) v z le = absurd (omega (arith, entry-leaf v, group-most g k))
+      go e (node o x y) v z le =
+          let S = split v N (omega arith) in
+          rw (sym z) (S .left-start, (unfold need in ap₂ needOf (S .left-need) (S .right-need)))
+
+-- ---- every entry of a tree's list is a node
+pub node-at : {l : List ℕ} (I : IsTree l) (e : ℕ) → e < length l → NodeAt l e (locate (I .tree) [] e .part)
+node-at I e h =
+    let P = part-of-place (I .tree) e _ (omega (arith, ap length (I .list), postfix-length (I .tree))) refl in
+    record { from = _; above = locate (I .tree) [] e .above; is = record { whole = I .list ∙ P .whole; begins = P .begins; ends = P .ends } }
+
+-- ---- what the code computes from the notes, by which child comes first
+module _ (s n : List ℕ) (e k : ℕ) where
+  pub ordered-left : getD n (e - 1) 0 ≤ getD n (middle s e - 1) 0 → Ordered s n e k (middle s e - 1) (e - 1) k (k + 1)
+  ordered-left h = let f = le-leb (getD n (e - 1) 0) (getD n (middle s e - 1) 0) h in record { one = rw f; two = rw f; left-register = rw f; right-register = rw f }
+
+  pub ordered-right : getD n (middle s e - 1) 0 < getD n (e - 1) 0 → Ordered s n e k (e - 1) (middle s e - 1) (k + 1) k
+  ordered-right h = let f = lt-leb (getD n (e - 1) 0) (getD n (middle s e - 1) 0) h in record { one = rw f; two = rw f; left-register = rw f; right-register = rw f }
+
+module _ (s n : List ℕ) (e p : ℕ) where
+  module _ (h : getD n (e - 1) 0 ≤ getD n (middle s e - 1) 0) where
+    pub stepped-left-first : p < middle s e → Stepped s n e p (middle s e - 1) 0
+    stepped-left-first lt =
+        let f = le-leb (getD n (e - 1) 0) (getD n (middle s e - 1) 0) h in
+        let g = lt-ltb p (middle s e) lt in
+        record { child = rw g; passed = rw (g, f) }
+
+    pub stepped-right-second : middle s e ≤ p → Stepped s n e p (e - 1) (middle s e - getD s (middle s e - 1) 0)
+    stepped-right-second le =
+        let f = le-leb (getD n (e - 1) 0) (getD n (middle s e - 1) 0) h in
+        let g = le-ltb p (middle s e) le in
+        record { child = rw g; passed = rw (g, f) }
+
+  module _ (h : getD n (middle s e - 1) 0 < getD n (e - 1) 0) where
+    pub stepped-left-second : p < middle s e → Stepped s n e p (middle s e - 1) (e - middle s e)
+    stepped-left-second lt =
+        let f = lt-leb (getD n (e - 1) 0) (getD n (middle s e - 1) 0) h in
+        let g = lt-ltb p (middle s e) lt in
+        record { child = rw g; passed = rw (g, f) }
+
+    pub stepped-right-first : middle s e ≤ p → Stepped s n e p (e - 1) 0
+    stepped-right-first le =
+        let f = lt-leb (getD n (e - 1) 0) (getD n (middle s e - 1) 0) h in
+        let g = le-ltb p (middle s e) le in
+        record { child = rw g; passed = rw (g, f) }
+
+pub tree-few : (l : List ℕ) → isSome (treeOf l) ≡ true → length l ≤ mostNodes
+tree-few l h = let I = the-tree l h in omega (arith, I .most, ap length (I .list), postfix-length (I .tree))
+
+-- ---- what the pass finds behind an operator of a tree's list
+pub record Operands (s n : List ℕ) (i : ℕ) : Type 0 where
+  pub some : 1 ≤ i
+  pub left : 1 ≤ middle s i
+  pub right : middle s i < i
+  pub small : getD n (middle s i - 1) 0 < 255
+
+pub operands : (l s n : List ℕ) (i : ℕ) → isSome (treeOf l) ≡ true → NotedBelow l s n i → i < length l → sign union ≤ getD l i 0 → Operands s n i
+operands l s n i h N lt le = go _ (node-at (the-tree l h) i lt)
+  where
+    few : length l ≤ mostNodes
+    few = tree-few l h
+
+    go : (a : Tree) → NodeAt l i a → Operands s n i
+    go (leaf g k) v = absurd (omega (arith, entry-leaf v, group-most g k))
+    go (node o x y) v =
+        let S = split v N (omega arith) in
+        let p = size-positive x in
+        let q = size-positive y in
+        let E = node-ends v in
+        let m = S .begins in
+        record {
+          some = omega arith;
+          left = omega arith;
+          right = omega arith;
+          small = omega (arith, S .left-need, need-most x (omega (arith, few)));
+        }

@@ -1,0 +1,136 @@
+-- What the writer leaves: an instruction's four numbers; a leaf's code; and a node's, from the code of its two children.
+use mathlib.Core.Path.{_≡_, refl, sym, ap, _∙_}
+use mathlib.Core.Bool.{Bool, true, false, cond}
+use mathlib.Core.List.{List, [], _∷_}
+use Prim.Native.Nat.{ℕ, suc, _+_, _-_, _*_, _≤_, _<_}
+use native.Mathlib.Omega.{arith}
+use lib.ListN.{length, getD, set, length-set}
+use Rattle.tree.specs.Tree.{Operator, union, difference, Tree, leaf, node, sign, size}
+use Rattle.tree.specs.Writing.{Wrote}
+use Rattle.tree.proofs.TreeLaws.{size-positive, group-most}
+use Rattle.tree.proofs.WritingLaws.{wrote-then, wrote-as}
+use Rattle.player.specs.Limits.{registerCount}
+use Rattle.player.specs.Instructions.{numbersOf}
+use Rattle.coder.specs.Need.{need, leftFirst, first, second}
+use Rattle.coder.specs.Code.{operationKind, code}
+use Rattle.coder.specs.Notes.{NodeAt, middle, leftIsFirst, Inner, Ordered, Writable}
+use Rattle.coder.proofs.NeedLaws.{need-node, need-positive}
+use Rattle.coder.proofs.CodeLaws.{size-node, length-numbers, numbers-leaf, numbers-node}
+use Rattle.coder.proofs.NoteLaws.{as-leaf, entry-leaf, entry-node, node-inside, Split, split}
+
+pub wrote-four : (out : List ℕ) (at a b c d : ℕ) → Wrote out at (set (set (set (set out at a) (at + 1) b) (at + 2) c) (at + 3) d) (at + 4) (a ∷ b ∷ c ∷ d ∷ [])
+wrote-four out at a b c d =
+    let one : at + 1 ≡ suc at = omega arith in
+    let two : at + 2 ≡ suc (suc at) = omega arith in
+    let three : at + 3 ≡ suc (suc (suc at)) = omega arith in
+    record { list = rw (one, two, three); ends = refl; same = simp length-set }
+
+pub kind-union : (x : ℕ) → x ≡ sign union → (o : Operator) → x ≡ sign o → 2 ≡ operationKind o
+kind-union x e union h = refl
+kind-union x e difference h = absurd (omega arith)
+
+pub kind-difference : (x : ℕ) → (x ≡ sign union → ⊥) → (o : Operator) → x ≡ sign o → 3 ≡ operationKind o
+kind-difference x n union h = absurd (n h)
+kind-difference x n difference h = refl
+
+-- what a call for the node at `end` promises: the code of its part
+abbrev pub Writes : List ℕ → ℕ → ℕ → List ℕ → ℕ → List ℕ → ℕ → Type 0
+Writes l e k out at out′ next = (a : Tree) → NodeAt l e a → Wrote out at out′ next (numbersOf (code a k))
+
+module _ (l : List ℕ) (e k : ℕ) where
+  pub writes-leaf : {out out′ : List ℕ} {at next : ℕ} → getD l e 0 < sign union → Wrote out at out′ next (1 ∷ k ∷ getD l e 0 ∷ 0 ∷ []) → Writes l e k out at out′ next
+  writes-leaf lt w a v = let z = as-leaf a v lt in wrote-as w (sym (ap (λ (t : Tree). numbersOf (code t k)) (z .1) ∙ numbers-leaf _ (z .0) k))
+
+-- ---- a node's children, in the order of their code
+module _ {l s n : List ℕ} {e k : ℕ} {o : Operator} {x y : Tree} {v : NodeAt l e (node o x y)} (S : Split l s n e o x y v) {one two a b : ℕ} (O : Ordered s n e k one two a b) where
+  node-one : NodeAt l one (first x y)
+  node-one = rw (O .one, S .order) (go (leftFirst x y))
+    where
+      go : (f : Bool) → NodeAt l (cond f (middle s e - 1) (e - 1)) (cond f x y)
+      go true = S .left-at
+      go false = S .right-at
+
+  node-two : NodeAt l two (second x y)
+  node-two = rw (O .two, S .order) (go (leftFirst x y))
+    where
+      go : (f : Bool) → NodeAt l (cond f (e - 1) (middle s e - 1)) (cond f y x)
+      go true = S .right-at
+      go false = S .left-at
+
+  below-one : one < e
+  below-one = rw (O .one) (go (leftIsFirst s n e))
+    where
+      go : (f : Bool) → cond f (middle s e - 1) (e - 1) < e
+      go true = omega (arith, S .begins, S .ends, size-positive y)
+      go false = omega (arith, S .ends, size-positive y)
+
+  below-two : two < e
+  below-two = rw (O .two) (go (leftIsFirst s n e))
+    where
+      go : (f : Bool) → cond f (e - 1) (middle s e - 1) < e
+      go true = omega (arith, S .ends, size-positive y)
+      go false = omega (arith, S .begins, S .ends, size-positive y)
+
+-- what the two calls for the children ask, and the operator's own instruction
+pub record Ready (l s n : List ℕ) (e k : ℕ) (out : List ℕ) (at one two : ℕ) : Type 0 where
+  pub less-one : one < e
+  pub less-two : two < e
+  pub first-call : Writable l s n one k out at
+  pub second-call : (out₁ : List ℕ) (next : ℕ) → Writes l one k out at out₁ next → Writable l s n two (k + 1) out₁ next
+  pub own-room : (out₁ out₂ : List ℕ) (next last : ℕ) → Writes l one k out at out₁ next → Writes l two (k + 1) out₁ next out₂ last → last + 4 ≤ length out₂
+
+module _ {l s n : List ℕ} {e k : ℕ} {out : List ℕ} {at : ℕ} (W : Writable l s n e k out at) where
+  pub end-inside : e < length l
+  end-inside = node-inside (W .root)
+
+  pub leaf-room : at + 4 ≤ length out
+  leaf-room = omega (arith, W .room, size-positive (W .part))
+
+  module _ (le : sign union ≤ getD l e 0) where
+    pub inner-node : Inner s e × (k + 1 < registerCount)
+    inner-node = go (W .part) (W .root) (W .registers)
+      where
+        go : (a : Tree) → NodeAt l e a → k + need a ≤ registerCount → Inner s e × (k + 1 < registerCount)
+        go (leaf g h) v r = absurd (omega (arith, entry-leaf v, group-most g h))
+        go (node o x y) v r = (
+          split v (W .noted .all) (omega (arith, end-inside)) .inner (omega (arith, end-inside, W .noted .few)),
+          omega (arith, need-node o x y, need-positive (second x y)),
+        )
+
+    pub ready : {one two a b : ℕ} → Ordered s n e k one two a b → Ready l s n e k out at one two
+    ready {one} {two} {a} {b} O = go (W .part) (W .root) (W .registers) (W .room)
+      where
+        go : (a : Tree) → NodeAt l e a → k + need a ≤ registerCount → at + 4 * size a ≤ length out → Ready l s n e k out at one two
+        go (leaf g h) v r q = absurd (omega (arith, entry-leaf v, group-most g h))
+        go (node o x y) v r q =
+            let S = split v (W .noted .all) (omega (arith, end-inside)) in
+            let N = need-node o x y in
+            let Z = size-node o x y in
+            let u = node-one S O in
+            let w = node-two S O in
+            record {
+              less-one = below-one S O;
+              less-two = below-two S O;
+              first-call = record { part = first x y; root = u; noted = W .noted; registers = omega arith; room = omega arith };
+              second-call = λ out₁ next c. let d = c (first x y) u in record {
+                part = second x y;
+                root = w;
+                noted = W .noted;
+                registers = omega arith;
+                room = omega (arith, d .ends, d .same, length-numbers (first x y) k);
+              };
+              own-room = λ out₁ out₂ next last c d.
+                  let f = c (first x y) u in
+                  let g = d (second x y) w in
+                  omega (arith, f .ends, f .same, g .ends, g .same, length-numbers (first x y) k, length-numbers (second x y) (k + 1));
+            }
+
+    pub writes-node : {one two a b kind next last after : ℕ} {out₁ out₂ out₃ : List ℕ} → Ordered s n e k one two a b
+        → Writes l one k out at out₁ next → Writes l two (k + 1) out₁ next out₂ last
+        → ((o : Operator) → getD l e 0 ≡ sign o → kind ≡ operationKind o) → Wrote out₂ last out₃ after (kind ∷ k ∷ a ∷ b ∷ [])
+        → Writes l e k out at out₃ after
+    writes-node O c d K p (leaf g h) v = absurd (omega (arith, entry-leaf v, group-most g h))
+    writes-node {one} {two} {a} {b} {kind} O c d K p (node o x y) v =
+        let S = split v (W .noted .all) (omega (arith, end-inside)) in
+        wrote-as (wrote-then (wrote-then (c (first x y) (node-one S O)) (d (second x y) (node-two S O))) p)
+        (rw (K o (entry-node v)) (numbers-node o x y k a b (O .left-register ∙ rw (S .order)) (O .right-register ∙ rw (S .order))))

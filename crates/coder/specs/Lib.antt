@@ -1,0 +1,5 @@
+pub mod Need
+pub mod Code
+pub mod Effects
+pub mod Coding
+pub mod Notes

@@ -1,0 +1,256 @@
+// The coder: from a tree to instructions that thirteen registers can run.
+//
+// One pass over the tree's list notes where each node's part begins and what it needs. With these notes a node's children
+// are found from its entry: the right one is the entry before, the left one the entry before the right part's start.
+ghost use mathlib.Core.Path.{_≡_};
+ghost use mathlib.Core.Bool.{true};
+ghost use mathlib.Core.Option.{some};
+ghost use mathlib.Core.List.{[], _∷_};
+ghost use Prim.Native.Nat.{_+_, _<_, _≤_};
+ghost use lib.ListN.{length};
+ghost use Rattle.tree.specs.Tree.{Operator, Tree, sign, mostNodes};
+ghost use Rattle.tree.specs.Parse.{treeOf, isSome, locate};
+ghost use Rattle.tree.specs.Writing.{Wrote};
+ghost use Rattle.player.specs.Limits.{registerCount};
+ghost use Rattle.player.specs.Instructions.{numbersOf};
+ghost use Rattle.coder.specs.Need.{needOf};
+ghost use Rattle.coder.specs.Code.{operationKind, code as codeOf, runFirst};
+ghost use Rattle.coder.specs.Coding.{Encodes, IsRun};
+ghost use Rattle.coder.specs.Notes.{NodeAt, Noted, Inner, Ordered, Stepped, Writable};
+
+// Four numbers for each of 8,191 instructions.
+pub const LEAST_BUFFER: usize = 32764;
+
+// 01's kinds of instruction.
+const LOAD: u16 = 1;
+
+const ADD: u16 = 2;
+
+const CUT: u16 = 3;
+
+// The answer of `encode`: the number of instructions, or the number of the first fault.
+pub enum Coded {
+    Done(usize),
+    Refused(u16),
+}
+
+// A node's run in the code of its tree: its first instruction, counted from 1, and how many there are.
+pub struct Run {
+    pub first: usize,
+    pub count: usize,
+}
+
+// A node's children in the order of their code, by their entries, and the registers of the left and the right operand.
+struct Children {
+    first: usize,
+    second: usize,
+    left: u16,
+    right: u16,
+}
+
+// A child's entry, and how many instructions stand before its own in the code of its parent.
+struct Below {
+    end: usize,
+    before: usize,
+}
+
+// The need of a node whose children need a and b.
+fn need_of(a: u8, b: u8) -> u8
+    requires { ⌜ a < 255 ⌝ }
+    ensures { λ r. ⌜ r ≡ needOf a b ⌝ }
+{
+    if a == b {
+        return a + 1;
+    }
+    if a < b { b } else { a }
+}
+
+// Notes of each node of a tree where its part begins and what it needs.
+fn note_nodes(
+    tree: &[u16],
+    starts: &mut [u16; tree::MOST_NODES],
+    needs: &mut [u8; tree::MOST_NODES],
+)
+    requires { ⌜ (isSome (treeOf (now tree)) ≡ true) × (length (now starts) ≡ mostNodes) × (length (now needs) ≡ mostNodes) ⌝ }
+    ensures { λ _. ⌜ Noted (now (tree .entry)) (now (starts .exit)) (now (needs .exit)) ⌝ }
+{
+    let mut i = 0;
+    while i < tree.len() {
+        if tree[i] < tree::UNION {
+            starts[i] = i as u16;
+            needs[i] = 1;
+            i += 1;
+        } else {
+            let left = (starts[i - 1] as usize) - 1;
+            starts[i] = starts[left];
+            needs[i] = need_of(needs[left], needs[i - 1]);
+            i += 1;
+        }
+    }
+}
+
+// The children of the node at `end`, where its target is `target`.
+fn children_of(
+    starts: &[u16; tree::MOST_NODES],
+    needs: &[u8; tree::MOST_NODES],
+    end: usize,
+    target: u16,
+) -> Children
+    requires { ⌜ Inner (now starts) end × (target < registerCount) ⌝ }
+    ensures { λ r. ⌜ Ordered (now (starts .entry)) (now (needs .entry)) end target (r .first) (r .second) (r .left) (r .right) ⌝ }
+{
+    let right = end - 1;
+    let left = (starts[right] as usize) - 1;
+    if needs[right] <= needs[left] {
+        Children {
+            first: left,
+            second: right,
+            left: target,
+            right: target + 1,
+        }
+    } else {
+        Children {
+            first: right,
+            second: left,
+            left: target + 1,
+            right: target,
+        }
+    }
+}
+
+// Writes an instruction's four numbers from index `at` on, and returns the index after them.
+fn put(out: &mut [u16], at: usize, kind: u16, target: u16, s: u16, t: u16) -> usize
+    requires { ⌜ at + 4 ≤ length (now out) ⌝ }
+    ensures { λ r. ⌜ Wrote (now (out .entry)) at (now (out .exit)) r (kind ∷ target ∷ s ∷ t ∷ []) ⌝ }
+{
+    out[at] = kind;
+    out[at + 1] = target;
+    out[at + 2] = s;
+    out[at + 3] = t;
+    at + 4
+}
+
+// The kind of an operator's instruction.
+fn kind_of(x: u16) -> u16
+    ensures { λ r. ⌜ ((o : Operator) → x ≡ sign o → r ≡ operationKind o) ⌝ }
+{
+    if x == tree::UNION { ADD } else { CUT }
+}
+
+// Writes the code of the node at `end` from index `at` on, and returns the index after it.
+fn write_node(
+    tree: &[u16],
+    starts: &[u16; tree::MOST_NODES],
+    needs: &[u8; tree::MOST_NODES],
+    end: usize,
+    target: u16,
+    out: &mut [u16],
+    at: usize,
+) -> usize
+    requires { ⌜ Writable (now tree) (now starts) (now needs) end target (now out) at ⌝ }
+    ensures { λ n. ⌜ ((a : Tree) → NodeAt (now (tree .entry)) end a → Wrote (now (out .entry)) at (now (out .exit)) n (numbersOf (codeOf a target))) ⌝ }
+{
+    let x = tree[end];
+    if x < tree::UNION {
+        return put(out, at, LOAD, target, x, 0);
+    }
+    let c = children_of(starts, needs, end, target);
+    let other = target + 1;
+    let next = write_node(tree, starts, needs, c.first, target, out, at);
+    let last = write_node(tree, starts, needs, c.second, other, out, next);
+    put(out, last, kind_of(x), target, c.left, c.right)
+}
+
+// Writes the code of a tree into `out`, or refuses and writes nothing.
+pub fn encode(tree: &[u16], out: &mut [u16]) -> Coded
+    ensures { λ r. ⌜ Encodes (now (tree .entry)) (now (out .entry)) r (now (out .exit)) ⌝ }
+{
+    if out.len() < LEAST_BUFFER {
+        return Coded::Refused(20);
+    }
+    if tree::is_tree(tree) {
+        let mut starts = [0u16; tree::MOST_NODES];
+        let mut needs = [0u8; tree::MOST_NODES];
+        note_nodes(tree, &mut starts, &mut needs);
+        write_node(tree, &starts, &needs, tree.len() - 1, 0, out, 0);
+        return Coded::Done(tree.len());
+    }
+    Coded::Refused(12)
+}
+
+// From the node at `end` to its child that has the node at `position` in its part.
+fn step_down(
+    starts: &[u16; tree::MOST_NODES],
+    needs: &[u8; tree::MOST_NODES],
+    end: usize,
+    position: usize,
+) -> Below
+    requires { ⌜ Inner (now starts) end ⌝ }
+    ensures { λ r. ⌜ Stepped (now (starts .entry)) (now (needs .entry)) end position (r .end) (r .before) ⌝ }
+{
+    let middle = starts[end - 1] as usize;
+    let left = middle - 1;
+    if needs[end - 1] <= needs[left] {
+        if position < middle {
+            return Below {
+                end: left,
+                before: 0,
+            };
+        }
+        return Below {
+            end: end - 1,
+            before: middle - (starts[left] as usize),
+        };
+    }
+    if position < middle {
+        return Below {
+            end: left,
+            before: end - middle,
+        };
+    }
+    Below {
+        end: end - 1,
+        before: 0,
+    }
+}
+
+// The number of the first instruction of the node at `position`, counted from 1, in the code of the whole tree.
+fn first_of(
+    tree: &[u16],
+    starts: &[u16; tree::MOST_NODES],
+    needs: &[u8; tree::MOST_NODES],
+    position: usize,
+) -> usize
+    requires { ⌜ (isSome (treeOf (now tree)) ≡ true) × Noted (now tree) (now starts) (now needs) × (position < length (now tree)) ⌝ }
+    ensures { λ r. ⌜ ((t : Tree) → treeOf (now (tree .entry)) ≡ some t → r ≡ runFirst (locate t [] position .part) (locate t [] position .above)) ⌝ }
+{
+    let mut end = tree.len() - 1;
+    let mut first = 1;
+    while position < end {
+        let b = step_down(starts, needs, end, position);
+        first += b.before;
+        end = b.end;
+    }
+    first
+}
+
+// The run of the node at `position` in the code of the whole tree: 0 and 0 where the list is no tree or has no such node.
+pub fn run_of(tree: &[u16], position: usize) -> Run
+    ensures { λ r. ⌜ IsRun (now (tree .entry)) position r ⌝ }
+{
+    if tree.len() <= position {
+        return Run { first: 0, count: 0 };
+    }
+    if tree::is_tree(tree) {
+        let mut starts = [0u16; tree::MOST_NODES];
+        let mut needs = [0u8; tree::MOST_NODES];
+        note_nodes(tree, &mut starts, &mut needs);
+        let first = first_of(tree, &starts, &needs, position);
+        let start = starts[position] as usize;
+        return Run {
+            first: first,
+            count: position + 1 - start,
+        };
+    }
+    Run { first: 0, count: 0 }
+}

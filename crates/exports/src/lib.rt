@@ -1,0 +1,61 @@
+// The calls for programs in other languages, for tests and measurements: a slice passes as a pointer and a length, and an
+// answer as numbers: 01's number first (0 for done), then the values of the answer (0 where refused).
+use coder::Coded;
+use gather::Gathering;
+use lift::Lifted;
+use player::Played;
+
+// Stores a number of an answer, where the array has that place.
+fn store(answer: &mut [u32], i: usize, value: usize) {
+    if i < answer.len() {
+        answer[i] = (value % 4294967296) as u32;
+    }
+}
+
+// Stores an answer of up to four numbers.
+fn store_all(answer: &mut [u32], number: usize, a: usize, b: usize, c: usize) {
+    store(answer, 0, number);
+    store(answer, 1, a);
+    store(answer, 2, b);
+    store(answer, 3, c);
+}
+
+// Number, length, position, looks.
+#[no_mangle]
+pub extern "C" fn lift_call(tree: &[u16], position: usize, levels: usize, out: &mut [u16], answer: &mut [u32]) {
+    let lifted = lift::lift(tree, position, levels, out);
+    match lifted {
+        Lifted::Done { length, position: place, looks } => store_all(answer, 0, length, place, looks),
+        Lifted::Refused(number) => store_all(answer, number as usize, 0, 0, 0),
+    }
+}
+
+// Number, length, the holder's position.
+#[no_mangle]
+pub extern "C" fn gather_call(tree: &[u16], marks: &[u16], out: &mut [u16], answer: &mut [u32]) {
+    let gathered = gather::gather(tree, marks, out);
+    match gathered {
+        Gathering::Done { length, holder } => store_all(answer, 0, length, holder, 0),
+        Gathering::Refused(number) => store_all(answer, number as usize, 0, 0, 0),
+    }
+}
+
+// Number, count of instructions.
+#[no_mangle]
+pub extern "C" fn encode_call(tree: &[u16], out: &mut [u16], answer: &mut [u32]) {
+    let coded = coder::encode(tree, out);
+    match coded {
+        Coded::Done(count) => store_all(answer, 0, count, 0, 0),
+        Coded::Refused(number) => store_all(answer, number as usize, 0, 0, 0),
+    }
+}
+
+// The number.
+#[no_mangle]
+pub extern "C" fn play_call(code: &[u16], patch: &[u16], lamps: &mut [u8]) -> u16 {
+    let played = player::play(code, patch, lamps);
+    match played {
+        Played::Done => 0,
+        Played::Refused(number) => number,
+    }
+}

@@ -1,0 +1,40 @@
+use Rattle.gather.proofs.EmitLaws.{between-short, close-wrote}
+use Rattle.tree.specs.Tree.{difference, sign}
+use Prim.Native.Nat.{_-_}
+use native.Mathlib.Omega.{arith}
+use borrow.Author.Needs.{needs}
+use Rattle.gather.proofs.write_closing.Statement.{statement}
+use Rattle.gather.proofs.write_closing.Tie as tie
+use Rattle.gather.proofs.write_closing.Reads as reads
+use Rattle.gather.proofs.write_closing.Lts as lts
+use Rattle.gather.proofs.operate.Reads as operate-reads
+use Rattle.gather.proofs.outer.Reads as outer-reads
+
+-- src/lib.rt:179:17
+sub-group : tie.Need-sub-group
+sub-group c = search needs
+
+-- src/lib.rt:180:9
+operate-requires : tie.Need-operate-requires
+operate-requires c κs = search needs
+
+-- src/lib.rt:181:9
+outer-requires : tie.Need-outer-requires
+outer-requires c κs = search needs
+
+-- src/lib.rt:182:5
+operate-requires-2 : tie.Need-operate-requires-2
+operate-requires-2 c κs = let a = c .before .before .before .before .before .before .before .args in omega (arith, c .before .before .before .before .operate .ensures .ends, c .before .before .before .before .operate .ensures .same, between-short (a .upper - 1) (a .upper) (a .to) (sign difference), c .before .before .before .before .before .before .before .pre .1)
+
+-- src/lib.rt:175:1
+same-length : tie.Need-same-length
+same-length c = search needs
+
+-- src/lib.rt:175:1
+returns : tie.Need-returns
+returns c = let a = c .before .before .before .before .before .before .before .before .before .before .args in close-wrote (a .form) (a .from) (a .upper) (a .to) _ (c .before .before .before .before .before .before .before .operate .ensures) (c .before .before .before .before .outer .ensures) (c .before .before .operate2 .ensures)
+
+pub write-closing-spec : {M : Type 1} → statement M
+write-closing-spec =
+    tie.close
+    (tie.spec sub-group operate-requires outer-requires operate-requires-2 same-length returns)

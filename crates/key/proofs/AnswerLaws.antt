@@ -1,0 +1,171 @@
+-- The key of a sheet that reading accepts, put together: its lifts, then what follows them.
+use mathlib.Core.Path.{_≡_, refl, sym, ap, subst, _∙_}
+use mathlib.Core.Bool.{Bool, true, false, cond}
+use mathlib.Core.List.{List, [], _∷_, _++_, append-nil}
+use mathlib.Core.Option.{some}
+use Prim.Native.Nat.{ℕ, _+_, _*_, _≤_, _<_}
+use native.Mathlib.Omega.{arith}
+use borrow.Author.Tests.{ltb-false}
+use lib.Dec.{ltb}
+use lib.ListN.{length, take, drop, replicate, length-append}
+use Rattle.tree.specs.Tree.{Tree, postfix, size, mostNodes, leaves, isIn, groups}
+use Rattle.tree.specs.Writing.{over, Wrote}
+use Rattle.tree.proofs.WritingLaws.{wrote-then, wrote-as, wrote-over}
+use Rattle.tree.proofs.TreeLaws.{postfix-length}
+use Rattle.tree.proofs.GroupLaws.{groups-leaves}
+use Rattle.text.specs.Parts.{split}
+use Rattle.text.specs.Line.{line, lines, lineFeed}
+use Rattle.text.proofs.LineLaws.{lines-append}
+use Rattle.sheet.specs.Reading.{mostBytes, mostSheetNodes, LiftLine, State, Outcome, accepted, refused, blank, run, readWithin, reading, answer, mostGroups}
+use Rattle.sheet.specs.declared.Sheet.{Sheet}
+use Rattle.sheet.proofs.AcceptedLaws.{accepted-sheet, answered-tree, answered-marks, number-accepted, number-refused}
+use Rattle.sheet.specs.Accepted.{Accepted}
+use Rattle.lift.proofs.LiftLaws.{Keeps}
+use Rattle.key.specs.Key.{NO, Key, answers, refusal, text, liftRows, heldRows, instructionRows}
+use Rattle.key.specs.Lifting.{treeAfter, liftAnswers}
+use Rattle.key.specs.Keyed.{keyBytes, KeyFor, Meets, WrittenKey, Keys}
+use Rattle.key.specs.Inner.{liftBytes, heldBytes, instructionBytes, IsList, Markable, Asked, LiftedAll, Finished, Answered}
+use Rattle.key.specs.declared.Progress.{Progress}
+use Rattle.key.specs.declared.Keyed.{Keyed}
+use Rattle.key.specs.declared.Keyed.the-variants.{Written, Short}
+use Rattle.key.proofs.AskingLaws.{lifts-few}
+use Rattle.key.proofs.LiftingLaws.{after-keeps}
+use Rattle.key.proofs.GatheringLaws.{markable-keeps}
+use Rattle.key.proofs.EncodingLaws.{take-over}
+use Rattle.key.proofs.DemandLaws.{demand-3}
+
+-- a sheet that is accepted is within the limit
+accepted-short : (s : List ℕ) (st : State) → reading s ≡ accepted st → length s ≤ mostBytes
+unfolding readWithin
+accepted-short s st e = go (ltb mostBytes (length s)) refl e
+  where
+    go : (b : Bool) → ltb mostBytes (length s) ≡ b → cond b (refused 1 0) (run mostSheetNodes blank 0 0 (split lineFeed s)) ≡ accepted st → length s ≤ mostBytes
+    go true q e = absurd (let z : _≡_ {A = ℕ} 0 1 = cc in omega arith)
+    go false q e = ltb-false mostBytes (length s) q
+
+module _ (s : List ℕ) (st : State) (e : reading s ≡ accepted st) (A : Accepted mostSheetNodes s st) where
+  -- at most 10,000 lifts
+  pub few-lifts : liftBytes * length (st .lifts) ≤ 200000
+  few-lifts = omega (arith, lifts-few s (st .start) (st .lifts) (A .end) (A .asked), accepted-short s st e)
+
+  pub asked : Asked s (st .start) (length (st .lifts)) (st .lifts)
+  asked = record { end = A .end; lines = A .asked; counted = refl }
+
+  pub marks-in : Markable (A .tree) (st .marks)
+  marks-in = record {
+    few = A .different;
+    once = A .once;
+    among = λ g k. groups-leaves (A .tree) g ∙ A .marked g k;
+  }
+
+  within : mostSheetNodes ≤ mostNodes
+  within = omega arith
+
+  pub marks-left : Markable (treeAfter (A .tree) (st .lifts)) (st .marks)
+  marks-left = markable-keeps (after-keeps (A .tree) (st .lifts) (omega (arith, A .nodes))) marks-in
+
+  -- the lifts' lines, then the rest
+  pub answered : {tree′ out out₁ out₂ : List ℕ} {r : Progress} {next : ℕ} → LiftedAll (A .tree) (st .lifts) tree′ r out out₁
+      → Finished (treeAfter (A .tree) (st .lifts)) (st .marks) out₁ (r .next) out₂ next → Answered st out out₂ next
+  answered L F =
+      record {
+        key = answers (liftAnswers (A .tree) (st .lifts)) (F .held) (F .instructions);
+        answers = (A .tree, A .is, (refl, F .ends));
+        wrote = wrote-as (wrote-then (L .wrote) (F .wrote)) (unfold text in sym (lines-append (liftRows (liftAnswers (A .tree) (st .lifts))) (heldRows (F .held) ++ instructionRows (F .instructions))));
+        most = omega (arith, L .most, F .most, few-lifts);
+      }
+
+-- ---- what `read` answers for such a sheet
+pub record IsRead (s : List ℕ) (st : State) (read : Sheet) : Type 0 where
+  pub is : reading s ≡ accepted st
+  pub has : Accepted mostSheetNodes s st
+  pub list : take (read .nodes) (read .tree) ≡ postfix (has .tree)
+  pub long : read .nodes ≤ length (read .tree)
+  pub counted : read .nodes ≡ size (has .tree)
+  pub most : size (has .tree) ≤ mostNodes
+  pub marks : take (read .marked) (read .marks) ≡ st .marks
+  pub marks-long : read .marked ≤ length (read .marks)
+  pub asks : Asked s (read .start) (read .lifts) (st .lifts)
+  pub few : liftBytes * read .lifts ≤ 200000
+
+answer-is : (s : List ℕ) (st : State) (e : reading s ≡ accepted st) → IsRead s st (answer (accepted st))
+unfolding answer
+answer-is s st e =
+    let A = accepted-sheet s st e in
+    record {
+      is = e;
+      has = A;
+      list = answered-tree st ∙ A .list;
+      long = omega (arith, length-append (st .entries) (drop (length (st .entries)) (replicate mostSheetNodes 0)));
+      counted = ap length (A .list) ∙ postfix-length (A .tree);
+      most = omega (arith, A .nodes);
+      marks = answered-marks st;
+      marks-long = omega (arith, length-append (st .marks) (drop (length (st .marks)) (replicate mostGroups 0)));
+      asks = asked s st e A;
+      few = few-lifts s st e A;
+    }
+
+pub is-read : (s : List ℕ) (st : State) (read : Sheet) → reading s ≡ accepted st → read ≡ answer (accepted st) → IsRead s st read
+is-read s st read e f = subst (IsRead s st) (sym f) (answer-is s st e)
+
+module _ {s : List ℕ} {st : State} {read : Sheet} (I : IsRead s st read) where
+  -- the tree's list in its array
+  pub read-copied : {zeros tree : List ℕ} {next : ℕ} → mostNodes ≤ length zeros → Wrote zeros 0 tree next (take (read .nodes) (read .tree)) → IsList (take (read .nodes) tree) (I .has .tree)
+  read-copied {zeros} {tree} h w =
+      let n = postfix-length (I .has .tree) in
+      let c : tree ≡ over (postfix (I .has .tree)) zeros = wrote-over (wrote-as w (I .list)) (omega (arith, n, I .most)) in
+      record { list = rw c (take-over (postfix (I .has .tree)) zeros (read .nodes) (I .counted ∙ sym n)); most = I .most }
+
+  pub read-marks : Markable (treeAfter (I .has .tree) (st .lifts)) (take (read .marked) (read .marks))
+  read-marks = rw (I .marks) (marks-left s st (I .is) (I .has))
+
+  pub read-answered : {tree′ out out₁ out₂ : List ℕ} {r : Progress} {next : ℕ} → LiftedAll (I .has .tree) (st .lifts) tree′ r out out₁
+      → Finished (treeAfter (I .has .tree) (st .lifts)) (take (read .marked) (read .marks)) out₁ (r .next) out₂ next → Answered st out out₂ next
+  read-answered L F = answered s st (I .is) (I .has) L (rw (I .marks) at F)
+
+  pub read-most : {tree′ out out₁ : List ℕ} {r : Progress} → LiftedAll (I .has .tree) (st .lifts) tree′ r out out₁ → r .next ≤ 200000
+  read-most L = omega (arith, L .most, I .few, I .asks .counted)
+
+-- ---- the contract of `key`
+meets : (o : Outcome) (s : List ℕ) → reading s ≡ o → (k : Key) → KeyFor o k → Meets o k
+meets (refused n l) s e k K = tt
+meets (accepted st) s e (refusal n l) K = K .2
+meets (accepted st) s e (answers done held is) K =
+    let A = accepted-sheet s st e in
+    let q : some (A .tree) ≡ some (K .0) = sym (A .is) ∙ K .1 in
+    let z : A .tree ≡ K .0 = cc in
+    (K .0, K .1, demand-3 (K .0) (st .marks) (st .lifts) (rw z at (omega-size A)) done held is (K .2))
+  where
+    omega-size : (A : Accepted mostSheetNodes s st) → size (A .tree) ≤ mostNodes
+    omega-size A = omega (arith, A .nodes)
+
+pub keys-written : (s out out′ : List ℕ) (n : ℕ) (o : Outcome) → reading s ≡ o → (k : Key) → KeyFor o k
+    → keyBytes ≤ length out → n ≤ keyBytes → Wrote out 0 out′ n (text k) → Keys s out (Written n) out′
+keys-written s out out′ n o e k K room most w = record {
+  short = λ h. absurd (omega arith);
+  long = λ h. record {
+    key = k;
+    answers = subst (λ (x : Outcome). KeyFor x k) (sym e) K;
+    demand = subst (λ (x : Outcome). Meets x k) (sym e) (meets o s e k K);
+    answered = ap Written (let z : n ≡ length (text k) = omega (arith, w .ends) in z);
+    written = wrote-over w (omega (arith, w .ends));
+  };
+}
+
+pub keys-short : (s out : List ℕ) → length out < keyBytes → Keys s out Short out
+keys-short s out h = record { short = λ _. (refl, refl); long = λ k. absurd (omega arith) }
+
+pub accepted-read : (s : List ℕ) (read : Sheet) → read ≡ answer (reading s) → read .number ≡ 0 → (st : State) × (reading s ≡ accepted st) × (read ≡ answer (accepted st))
+accepted-read s read e z =
+    let n = number-accepted s (ap (λ (x : Sheet). x .number) (sym e) ∙ z) in
+    (n .0, n .1, e ∙ ap answer (n .1))
+
+pub keys-refused : (s out out′ : List ℕ) (n : ℕ) (read : Sheet) → read ≡ answer (reading s) → (read .number ≡ 0 → ⊥) → keyBytes ≤ length out → n ≤ keyBytes
+    → Wrote out 0 out′ n (line NO (read .number ∷ read .line ∷ [])) → Keys s out (Written n) out′
+keys-refused s out out′ n read e z room most w =
+    let q : reading s ≡ refused (read .number) (read .line) = rw (← e) at (number-refused s (rw e at z)) in
+    keys-written s out out′ n (refused (read .number) (read .line)) q (refusal (read .number) (read .line)) refl room most
+    (wrote-as w (unfold text lines in sym (append-nil (line NO (read .number ∷ read .line ∷ [])))))
+
+pub keys-answered : (s out out′ : List ℕ) (n : ℕ) (st : State) → reading s ≡ accepted st → keyBytes ≤ length out → Answered st out out′ n → Keys s out (Written n) out′
+keys-answered s out out′ n st e room A = keys-written s out out′ n (accepted st) e (A .key) (A .answers) room (A .most) (A .wrote)

@@ -1,0 +1,127 @@
+-- A lift line of a sheet has at least 6 bytes, so a sheet has at most 10,000 lifts.
+use mathlib.Core.Path.{_≡_, refl, sym, ap, _∙_}
+use mathlib.Core.Bool.{Bool, true, false, not, cond, _&&_, true≢false}
+use mathlib.Core.List.{List, [], _∷_, _++_}
+use mathlib.Core.Option.{Option, some, none}
+use Prim.Native.Nat.{ℕ, _+_, _-_, _*_, _≤_, _<_}
+use native.Mathlib.Omega.{arith}
+use borrow.Author.Tests.{eqb-true, ltb-true}
+use lib.Dec.{eqb, leb, ltb}
+use lib.ListN.{length, drop, length-append, length-drop}
+use Rattle.tree.specs.Tree.{isGroup, union, difference, sign}
+use Rattle.text.specs.Decimal.{decimal, value, leadingZero, allDigits}
+use Rattle.text.specs.Parts.{Parts, last, part, split, join}
+use Rattle.text.specs.Line.{tab, lineFeed}
+use Rattle.text.proofs.PartsLaws.{join-split}
+use Rattle.sheet.specs.Form.{letterG, letterU, letterD, letterL, letterK, letterE, isPosition, isLevels, letterOf, ranged, bare, oneNumber, twoNumbers, formOf, lineOf, firstLine, lineAt}
+use Rattle.sheet.specs.Reading.{LiftLine}
+use Rattle.sheet.specs.Accepted.{LiftRange, LiftsTo}
+use Rattle.sheet.specs.declared.Line.{Line}
+use Rattle.sheet.specs.declared.Line.the-variants.{Group, Operator, Lift, Mark, End, Bad}
+use Rattle.sheet.specs.declared.LineAt.{LineAt}
+
+differ : {X : Type 0} → _≡_ {A = ℕ} 0 1 → X
+differ e = absurd (omega arith)
+
+-- a number that is read has at least one digit
+decimal-some : (f : List ℕ) (n : ℕ) → decimal f ≡ some n → 1 ≤ length f
+unfolding decimal
+decimal-some f n e = go (ltb 0 (length f)) refl e
+  where
+    go : (b : Bool) → ltb 0 (length f) ≡ b → cond (b && not (leadingZero f) && allDigits f) (some (value 0 f)) none ≡ some n → 1 ≤ length f
+    go true q e = ltb-true 0 (length f) q
+    go false q e = differ cc
+
+-- only a line of two numbers has the form of a lift
+abbrev isLift : Line → Bool
+isLift (Group g) = false
+isLift (Operator x) = false
+isLift (Lift p n) = true
+isLift (Mark g) = false
+isLift End = false
+isLift Bad = false
+
+no-lift : {X : Type 0} (l : Line) (p n : ℕ) → isLift l ≡ false → l ≡ Lift p n → X
+no-lift l p n e f = absurd (true≢false (sym (ap isLift f) ∙ e))
+
+bare-other : (k : ℕ) → isLift (bare k) ≡ false
+bare-other k = go (eqb k letterU) (eqb k letterD) (eqb k letterE)
+  where
+    go : (a b c : Bool) → isLift (cond a (Operator (sign union)) (cond b (Operator (sign difference)) (cond c End Bad))) ≡ false
+    go true b c = refl
+    go false true c = refl
+    go false false true = refl
+    go false false false = refl
+
+ranged-other : (passes : ℕ → Bool) (form : ℕ → Line) (o : Option ℕ) → ((g : ℕ) → isLift (form g) ≡ false) → isLift (ranged passes form o) ≡ false
+ranged-other passes form none f = refl
+ranged-other passes form (some g) f = go (passes g)
+  where
+    go : (b : Bool) → isLift (cond b (form g) Bad) ≡ false
+    go true = f g
+    go false = refl
+
+one-other : (k : ℕ) (o : Option ℕ) → isLift (oneNumber k o) ≡ false
+one-other k o = go (eqb k letterG) (eqb k letterK)
+  where
+    go : (a b : Bool) → isLift (cond a (ranged isGroup Group o) (cond b (ranged isGroup Mark o) Bad)) ≡ false
+    go true b = ranged-other isGroup Group o (λ g. refl)
+    go false true = ranged-other isGroup Mark o (λ g. refl)
+    go false false = refl
+
+-- a letter is one byte
+letter-one : (k : List ℕ) → letterOf k ≡ letterL → length k ≡ 1
+letter-one [] e = absurd (omega arith)
+letter-one (b ∷ []) e = refl
+letter-one (b ∷ (c ∷ k)) e = absurd (omega arith)
+
+two-long : (k f g : List ℕ) (p n : ℕ) → twoNumbers (letterOf k) (decimal f) (decimal g) ≡ Lift p n → (length k ≡ 1) × (1 ≤ length f) × (1 ≤ length g)
+two-long k f g p n e = go (eqb (letterOf k) letterL) refl (decimal f) refl (decimal g) refl e
+  where
+    go : (b : Bool) → eqb (letterOf k) letterL ≡ b → (x : Option ℕ) → decimal f ≡ x → (y : Option ℕ) → decimal g ≡ y
+        → cond b (ranged isPosition (λ p. ranged isLevels (λ n. Lift p n) y) x) Bad ≡ Lift p n → (length k ≡ 1) × (1 ≤ length f) × (1 ≤ length g)
+    go true q (some x) r (some y) s e = (letter-one k (eqb-true (letterOf k) letterL q), decimal-some f x r, decimal-some g y s)
+    go true q (some x) r none s e = no-lift (cond (isPosition x) Bad Bad) p n (both (isPosition x)) e
+      where
+        both : (b : Bool) → isLift (cond b Bad Bad) ≡ false
+        both true = refl
+        both false = refl
+    go true q none r y s e = no-lift Bad p n refl e
+    go false q x r y s e = no-lift Bad p n refl e
+
+long-enough : (ps : Parts) (p n : ℕ) → formOf ps ≡ Lift p n → 5 ≤ length (join tab ps)
+unfolding formOf join
+long-enough (last k) p n e = no-lift (bare (letterOf k)) p n (bare-other (letterOf k)) e
+long-enough (part k (last f)) p n e = no-lift (oneNumber (letterOf k) (decimal f)) p n (one-other (letterOf k) (decimal f)) e
+long-enough (part k (part f (last g))) p n e =
+    let z = two-long k f g p n e in omega (arith, length-append k (tab ∷ (f ++ (tab ∷ g))), length-append f (tab ∷ g), z .0, z .1, z .2)
+long-enough (part k (part f (part g fs))) p n e = no-lift Bad p n refl e
+
+line-long : (l : List ℕ) (p n : ℕ) → lineOf l ≡ Lift p n → 5 ≤ length l
+unfolding lineOf
+line-long l p n e = rw (join-split tab l) at (long-enough (split tab l) p n e)
+
+-- the line after a lift line begins at least 6 bytes on, within the sheet
+pub lift-line-long : (sheet : List ℕ) (at p n : ℕ) → lineAt sheet at .line ≡ Lift p n → (at + 6 ≤ lineAt sheet at .next) × (lineAt sheet at .next ≤ length sheet)
+unfolding lineAt join
+lift-line-long sheet at p n e = go (split lineFeed (drop at sheet)) (join-split lineFeed (drop at sheet)) e
+  where
+    go : (ps : Parts) → join lineFeed ps ≡ drop at sheet → firstLine at ps .line ≡ Lift p n → (at + 6 ≤ firstLine at ps .next) × (firstLine at ps .next ≤ length sheet)
+    go (last l) j e = no-lift Bad p n refl e
+    go (part l ls) j e =
+        let z = line-long l p n e in
+        (omega arith, omega (arith, ap length j, length-append l (lineFeed ∷ join lineFeed ls), length-drop at sheet))
+
+pub lifts-most : (sheet : List ℕ) (at : ℕ) (ms : List LiftLine) (to : ℕ) → at ≤ length sheet → LiftsTo sheet at ms to → at + 6 * length ms ≤ length sheet
+unfolding LiftsTo
+lifts-most sheet at [] to h z = omega arith
+lifts-most sheet at (m ∷ ms) to h z =
+    let w = lift-line-long sheet at (m .position) (m .levels) (z .0) in
+    omega (arith, w .0, w .1, lifts-most sheet (lineAt sheet at .next) ms to (w .1) (z .2))
+
+pub lifts-few : (sheet : List ℕ) (at : ℕ) (ms : List LiftLine) (to : ℕ) → LiftsTo sheet at ms to → 6 * length ms ≤ length sheet
+unfolding LiftsTo
+lifts-few sheet at [] to z = omega arith
+lifts-few sheet at (m ∷ ms) to z =
+    let w = lift-line-long sheet at (m .position) (m .levels) (z .0) in
+    omega (arith, w .0, w .1, lifts-most sheet (lineAt sheet at .next) ms to (w .1) (z .2))

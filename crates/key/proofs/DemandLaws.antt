@@ -1,0 +1,137 @@
+-- The third demand holds of every key that answers an accepted sheet.
+use mathlib.Core.Path.{_≡_, refl, sym, ap, subst, _∙_, fun-ext}
+use mathlib.Core.Bool.{Bool, false}
+use mathlib.Core.List.{List, [], _∷_, _++_}
+use Prim.Native.Nat.{ℕ, _≤_}
+use native.Mathlib.Omega.{arith}
+use lib.ListN.{length, drop}
+use Rattle.tree.specs.Tree.{Tree, size, mostNodes, Over, Equivalent, Rig, selected, isIn}
+use Rattle.tree.specs.Context.{plug}
+use Rattle.tree.proofs.TreeLaws.{equivalent-refl, equivalent-sym, equivalent-trans}
+use Rattle.player.specs.Limits.{registerCount, byteCount}
+use Rattle.player.specs.Instructions.{Instruction, numbersOf}
+use Rattle.player.specs.Patches.{rig}
+use Rattle.player.specs.Bytes.{bytes}
+use Rattle.player.specs.Playing.{wrongPairCount, wrongPatch, Plays}
+use Rattle.player.specs.declared.Played.{Played}
+use Rattle.player.specs.declared.Played.the-variants.{Done}
+use Rattle.coder.specs.Code.{code, codePlace, runFirst, runCount}
+use Rattle.coder.specs.Effects.{Every, Names, ClosedRun, LoadsApart}
+use Rattle.coder.proofs.Theorems.{thirteen-suffice, closed-run, loads-apart, code-lights}
+use Rattle.gather.specs.Gathering.{Gathered, CannotBeGathered}
+use Rattle.lift.proofs.LiftLaws.{Keeps}
+use Rattle.key.specs.Key.{LiftAnswer, Held, unmarked, heldRun, cannot, Key, answers}
+use Rattle.sheet.specs.Reading.{LiftLine}
+use Rattle.key.specs.Lifting.{treeAfter, liftAnswers}
+use Rattle.key.specs.Answering.{HeldCode, Ends, AnswersSheet}
+use Rattle.key.specs.Demand.{CodeOf, HolderRun, Lights, Demand3}
+use Rattle.key.proofs.LiftingLaws.{after-keeps}
+
+differ : {X : Type 0} → _≡_ {A = ℕ} 0 1 → X
+differ e = absurd (omega arith)
+
+-- equivalent trees are gathered by the same trees
+never-alike : {m : ℕ → Bool} {t u : Tree} → Equivalent t u → CannotBeGathered m u → CannotBeGathered m t
+never-alike e c = record { never = λ w p f g. c .never w p (equivalent-trans (equivalent-sym e) f) g }
+
+-- the player lights what an equivalent tree selects
+lights : (t u : Tree) → Equivalent t u → size u ≤ mostNodes → Lights t (code u 0)
+lights t u e h patch lamps even good long r after p =
+    let L = code-lights u h patch lamps long even good r after p in
+    (L .done, L .lit ∙ ap (λ (f : ℕ → Bool). bytes f ++ drop byteCount lamps) (fun-ext (λ lamp. sym (e .same (rig patch) lamp))))
+
+-- the code of the gathered tree, where the key says HELD and a run
+module _ (t u : Tree) (e : Equivalent t u) (marks : List ℕ) (first count : ℕ) (is : List Instruction) (some-mark : 1 ≤ length marks) (H : HeldCode u marks first count is) where
+  held-code : CodeOf u marks is
+  held-code = record {
+    tree = H .tree;
+    coded = H .coded;
+    left = λ z. absurd (omega (arith, ap (length {A = ℕ}) z));
+    equivalent = H .equivalent;
+    position = H .position;
+    gathered = λ _. H .gathered;
+  }
+
+  held-lights : Lights t is
+  held-lights = subst (Lights t) (sym (H .coded)) (lights t (H .tree) (equivalent-trans e (H .equivalent)) (H .most))
+
+  held-registers : Every (Names 0 registerCount) is
+  held-registers = subst (Every (Names 0 registerCount)) (sym (H .coded)) (thirteen-suffice (H .tree) (H .most))
+
+  -- the code, as that of the holder in its context
+  code-whole : code (plug (H .gathered .holder) (H .gathered .above)) 0 ≡ is
+  code-whole = ap (λ (x : Tree). code x 0) (sym (H .gathered .whole)) ∙ sym (H .coded)
+
+  held-run : HolderRun marks is first count
+  held-run =
+      let h = H .gathered .holder in
+      let c = H .gathered .above in
+      record {
+        tree = H .tree;
+        coded = H .coded;
+        position = H .position;
+        gathered = H .gathered;
+        firstIs = H .firstIs;
+        countIs = H .countIs;
+        target = codePlace h c 0 .target;
+        closed = rw (H .firstIs, H .countIs) (subst (λ (x : List Instruction). ClosedRun x (runFirst h c) (runCount h c) (codePlace h c 0 .target)) code-whole (closed-run h c));
+        apart = rw (H .firstIs, H .countIs) (subst (λ (x : List Instruction). LoadsApart (isIn marks) x (runFirst h c) (runCount h c)) code-whole (loads-apart h c (isIn marks) (H .gathered .marked) (H .gathered .others)));
+      }
+
+  held-demand : (ls : List LiftLine) → u ≡ treeAfter t ls → Demand3 t marks ls (liftAnswers t ls) (heldRun first count) is
+  held-demand ls same = record {
+    lifts = refl;
+    coded = λ _. subst (λ (x : Tree). CodeOf x marks is) same held-code;
+    lit = λ _. held-lights;
+    registers = held-registers;
+    run = λ f c q. let a : first ≡ f = cc in let b : count ≡ c = cc in rw (← a, ← b) held-run;
+    says = (λ z. absurd (omega (arith, ap (length {A = ℕ}) z)), λ q. differ cc);
+    never = λ q. differ cc;
+    always = λ k C. absurd (C .never (H .tree) (H .position) (equivalent-trans e (H .equivalent)) (H .gathered));
+    none = λ q. differ cc;
+  }
+
+plain-demand : (t : Tree) (marks : List ℕ) (ls : List LiftLine) → size t ≤ mostNodes → marks ≡ [] → Demand3 t marks ls (liftAnswers t ls) unmarked (code (treeAfter t ls) 0)
+plain-demand t marks ls h none =
+    let K = after-keeps t ls h in
+    record {
+      lifts = refl;
+      coded = λ _. record {
+        tree = treeAfter t ls;
+        coded = refl;
+        left = λ _. refl;
+        equivalent = equivalent-refl (treeAfter t ls);
+        position = 0;
+        gathered = λ k. absurd (omega (arith, ap (length {A = ℕ}) none));
+      };
+      lit = λ _. lights t (treeAfter t ls) (equivalent-sym (K .equivalent)) (K .most);
+      registers = thirteen-suffice (treeAfter t ls) (K .most);
+      run = λ f c q. differ cc;
+      says = (λ _. refl, λ _. none);
+      never = λ q. differ cc;
+      always = λ k C. absurd (omega (arith, ap (length {A = ℕ}) none));
+      none = λ q. differ cc;
+    }
+
+never-demand : (t : Tree) (marks : List ℕ) (ls : List LiftLine) → size t ≤ mostNodes → 1 ≤ length marks → CannotBeGathered (isIn marks) (treeAfter t ls)
+    → Demand3 t marks ls (liftAnswers t ls) cannot []
+never-demand t marks ls h some-mark C =
+    record {
+      lifts = refl;
+      coded = λ n. absurd (n refl);
+      lit = λ n. absurd (n refl);
+      registers = unfold Every in tt;
+      run = λ f c q. differ cc;
+      says = (λ z. absurd (omega (arith, ap (length {A = ℕ}) z)), λ q. differ cc);
+      never = λ _. never-alike (equivalent-sym (after-keeps t ls h .equivalent)) C;
+      always = λ k D. refl;
+      none = λ _. refl;
+    }
+
+-- THE THIRD DEMAND: for every tree as written within the limit, every list of marks and every list of lifts
+pub demand-3 : (t : Tree) (marks : List ℕ) (ls : List LiftLine) → size t ≤ mostNodes → (done : List LiftAnswer) (held : Held) (is : List Instruction)
+    → AnswersSheet t marks ls (answers done held is) → Demand3 t marks ls done held is
+demand-3 t marks ls h done unmarked is A = rw (A .0, A .1 .1) (plain-demand t marks ls h (A .1 .0))
+demand-3 t marks ls h done (heldRun first count) is A =
+    rw (A .0) (held-demand t (treeAfter t ls) (equivalent-sym (after-keeps t ls h .equivalent)) marks first count is (A .1 .0) (A .1 .1) ls refl)
+demand-3 t marks ls h done cannot is A = rw (A .0, A .1 .2) (never-demand t marks ls h (A .1 .0) (A .1 .1))

@@ -1,0 +1,75 @@
+-- What `encode` and `gather` leave, for a tree that the caller has.
+use mathlib.Core.Path.{_≡_, refl, sym, ap, subst, _∙_}
+use mathlib.Core.Bool.{Bool}
+use mathlib.Core.List.{List, [], _++_}
+use Prim.Native.Nat.{ℕ, _+_, _*_, _≤_, _<_}
+use native.Mathlib.Omega.{arith}
+use borrow.Author.Tests.{le-ltb}
+use lib.ListN.{length, take, drop, replicate, length-append, length-replicate}
+use lib.Seq.{take-at}
+use Rattle.tree.specs.Tree.{Tree, postfix, size, mostNodes}
+use Rattle.tree.specs.Writing.{over}
+use Rattle.tree.proofs.ParseLaws.{tree-of-postfix}
+use Rattle.text.specs.Line.{lines}
+use Rattle.player.specs.Instructions.{Instruction, numbersOf, instructions}
+use Rattle.player.specs.Laws.{numbers-length, instructions-numbers}
+use Rattle.coder.specs.Code.{code, codeNumbers}
+use Rattle.coder.specs.Coding.{leastBuffer, reply, Encodes}
+use Rattle.coder.specs.declared.Coded.{Coded}
+use Rattle.coder.specs.declared.Coded.the-variants.{Done, Refused}
+use Rattle.coder.proofs.Theorems.{code-length, code-well-formed}
+use Rattle.key.specs.Key.{instructionRows}
+use Rattle.key.specs.Inner.{instructionBytes, IsList}
+use Rattle.key.proofs.PrintingLaws.{codeText, code-most}
+
+-- the front of what was written over a buffer
+pub take-over : (xs out : List ℕ) (n : ℕ) → n ≡ length xs → take n (over xs out) ≡ xs
+take-over xs out n e = take-at xs (drop (length xs) out) n (sym e)
+
+-- the numbers that `encode` left, `count` instructions of them, are the code of the tree u
+pub record Encoded (u : Tree) (count : ℕ) (after : List ℕ) : Type 0 where
+  pub counted : count ≡ size u
+  pub small : count ≤ mostNodes
+  pub long : 4 * count ≤ length after
+  pub text : codeText (take (4 * count) after) ≡ lines (instructionRows (code u 0))
+  pub room : length (codeText (take (4 * count) after)) ≤ instructionBytes * mostNodes
+
+-- a new array of zeros has its length
+pub zeros-length : (n : ℕ) → n ≤ length (replicate {A = ℕ} n 0)
+zeros-length n = omega (arith, length-replicate {A = ℕ} n 0)
+
+module _ (tree out : List ℕ) (r : Coded) (after : List ℕ) (u : Tree) (w : IsList tree u) (full : leastBuffer ≤ length out) (E : Encodes tree out r after) where
+  done : r ≡ Done (size u)
+  done = E .answered ∙ rw (le-ltb (length out) leastBuffer full, w .list, tree-of-postfix u (w .most)) (ap Done (code-length u 0))
+
+  left-is : after ≡ over (codeNumbers u) out
+  left-is = E .written ∙ rw (le-ltb (length out) leastBuffer full, w .list, tree-of-postfix u (w .most))
+
+  numbers-count : length (codeNumbers u) ≡ 4 * size u
+  numbers-count = omega (arith, numbers-length (code u 0), code-length u 0)
+
+  text-is : codeText (take (4 * size u) after) ≡ lines (instructionRows (code u 0))
+  text-is =
+      ap (λ (l : List ℕ). codeText (take (4 * size u) l)) left-is ∙ ap codeText (take-over (codeNumbers u) out (4 * size u) (sym numbers-count))
+      ∙ ap (λ (is : List Instruction). lines (instructionRows is)) (instructions-numbers (code u 0))
+
+  long-is : 4 * size u ≤ length after
+  long-is = rw left-is (omega (arith, length-append (codeNumbers u) (drop (length (codeNumbers u)) out), numbers-count))
+
+  same-count : (n : ℕ) → r ≡ Done n → n ≡ size u
+  same-count n e = let f : Done n ≡ Done (size u) = sym e ∙ done in cc
+
+  pub encoded : (n : ℕ) → r ≡ Done n → Encoded u n after
+  encoded n e =
+      let s = same-count n e in
+      record {
+        counted = s;
+        small = omega (arith, s, w .most);
+        long = rw s long-is;
+        text = rw s text-is;
+        room = rw (s, text-is) (omega (arith, code-most (code u 0) (code-well-formed u (w .most)), code-length u 0, w .most));
+      }
+
+  -- it is not refused
+  pub encoded-not : {X : Type 0} (k : ℕ) → r ≡ Refused k → X
+  encoded-not k f = let e = done in absurd (let z : _≡_ {A = ℕ} 0 1 = cc in omega arith)

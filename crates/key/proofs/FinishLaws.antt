@@ -1,0 +1,141 @@
+-- What follows the lifts: the code of the tree that they leave, or the HELD line and the code of the gathered tree.
+use mathlib.Core.Path.{_≡_, refl, sym, ap, subst, _∙_}
+use mathlib.Core.Bool.{Bool, true, cond}
+use mathlib.Core.List.{List, [], _∷_, _++_, append-nil}
+use mathlib.Core.Option.{some}
+use Prim.Native.Nat.{ℕ, _+_, _-_, _*_, _≤_, _<_}
+use native.Mathlib.Omega.{arith}
+use borrow.Author.Tests.{lt-ltb}
+use lib.ListN.{length, take, drop, length-append}
+use Rattle.tree.specs.Tree.{Tree, postfix, size, mostNodes, isIn}
+use Rattle.tree.specs.Context.{Frame, plug, position, Place}
+use Rattle.tree.specs.Parse.{treeOf, locate}
+use Rattle.tree.specs.Writing.{over, Wrote}
+use Rattle.tree.proofs.TreeLaws.{postfix-length, size-positive}
+use Rattle.tree.proofs.ContextLaws.{locate-plug, position-most}
+use Rattle.tree.proofs.ParseLaws.{tree-of-postfix}
+use Rattle.tree.proofs.WritingLaws.{wrote-then, wrote-as}
+use Rattle.text.specs.Line.{line, lines}
+use Rattle.text.proofs.LineLaws.{lines-append}
+use Rattle.coder.specs.Code.{code, codePlace, runFirst, runCount}
+use Rattle.coder.specs.Coding.{firstFor, countFor, IsRun}
+use Rattle.coder.specs.declared.Run.{Run}
+use Rattle.coder.proofs.Theorems.{code-length, code-well-formed, closed-run}
+use Rattle.gather.specs.Gathering.{Gathered, CannotBeGathered}
+use Rattle.gather.specs.Answer.{fault, GatheredTo, GathersTree, Gathers}
+use Rattle.gather.specs.declared.Gathering.{Gathering}
+use Rattle.gather.specs.declared.Gathering.the-variants.{Done, Refused}
+use Rattle.key.specs.Key.{Held, unmarked, heldRun, cannot, HELD, row, heldRows, instructionRows}
+use Rattle.key.specs.Answering.{HeldCode, Ends}
+use Rattle.key.specs.Inner.{heldBytes, instructionBytes, IsList, Markable, Finished}
+use Rattle.key.proofs.PrintingLaws.{code-most, held-most, never-most}
+use Rattle.key.proofs.EncodingLaws.{take-over}
+use Rattle.key.proofs.GatheringLaws.{no-fault}
+
+-- the text of a tree's code has room
+pub tree-code-most : (u : Tree) → size u ≤ mostNodes → length (lines (instructionRows (code u 0))) ≤ instructionBytes * mostNodes
+tree-code-most u h = omega (arith, code-most (code u 0) (code-well-formed u h), code-length u 0)
+
+pub empty-list : (l : List ℕ) → length l ≡ 0 → l ≡ []
+empty-list [] e = refl
+empty-list (x ∷ l) e = absurd (omega arith)
+
+-- ---- without marks
+pub finished-plain : {u : Tree} {marks out out′ : List ℕ} {at next : ℕ} → size u ≤ mostNodes → marks ≡ [] → Wrote out at out′ next (lines (instructionRows (code u 0)))
+    → Finished u marks out at out′ next
+finished-plain {u} h e w = record {
+  held = unmarked;
+  instructions = code u 0;
+  ends = (e, refl);
+  wrote = w;
+  most = omega (arith, w .ends, tree-code-most u h);
+}
+
+-- ---- with marks: what `gather` says where reading found no fault
+module _ (list marks out out′ : List ℕ) (r : Gathering) (u : Tree) (w : IsList list u) (M : Markable u marks) (some-mark : 1 ≤ length marks) (full : mostNodes ≤ length out)
+    (G : Gathers list marks out out′ r) where
+  gathers : GathersTree u marks out out′ r
+  gathers =
+      G .gathers (ap (λ (l : List ℕ). fault l marks (length out)) (w .list) ∙ no-fault u marks (length out) (w .most) full some-mark M) u
+      (ap treeOf (w .list) ∙ tree-of-postfix u (w .most))
+
+  pub gathered-never : (n : ℕ) → r ≡ Refused n → CannotBeGathered (isIn marks) u
+  unfolding GathersTree
+  gathered-never n e = subst (GathersTree u marks out out′) e gathers .2
+
+  pub gathered-done : (count holder : ℕ) → r ≡ Done count holder → GatheredTo u marks out out′ count holder
+  unfolding GathersTree
+  gathered-done count holder e = subst (GathersTree u marks out out′) e gathers
+
+-- the gathered tree's list stands at the front
+pub gathered-list : {u : Tree} {marks out out′ : List ℕ} {count holder : ℕ} (D : GatheredTo u marks out out′ count holder) → IsList (take count out′) (D .result)
+gathered-list {u} {marks} {out} D = record {
+  list = rw (D .written) (take-over (postfix (D .result)) out _ (D .counted ∙ sym (postfix-length (D .result))));
+  most = D .most;
+}
+
+pub gathered-long : {u : Tree} {marks out out′ : List ℕ} {count holder : ℕ} (D : GatheredTo u marks out out′ count holder) → count ≤ length out′
+gathered-long {u} {marks} {out} D =
+    rw (D .written) (omega (arith, D .counted, postfix-length (D .result), length-append (postfix (D .result)) (drop (length (postfix (D .result))) out)))
+
+-- the run that `run_of` answers for the holder is the holder's
+module _ (g : Tree) (m : ℕ → Bool) (p : ℕ) (H : Gathered m g p) (most : size g ≤ mostNodes) (list : List ℕ) (w : list ≡ postfix g) (run : Run) (R : IsRun list p run) where
+  found : locate g [] p ≡ record { part = H .holder; above = H .above }
+  found = rw (H .whole, H .at) (locate-plug (H .holder) (H .above))
+
+  inside : p < size g
+  inside = rw (H .whole, H .at) (position-most (H .holder) (H .above))
+
+  pub run-first : run .first ≡ runFirst (H .holder) (H .above)
+  run-first = R .first ∙ rw (w, tree-of-postfix g most, lt-ltb p (size g) inside, found)
+
+  pub run-count : run .count ≡ runCount (H .holder) (H .above)
+  run-count = R .count ∙ rw (w, tree-of-postfix g most, lt-ltb p (size g) inside, found)
+
+  pub run-line : length (line HELD (0 ∷ run .first ∷ run .count ∷ [])) ≤ heldBytes
+  run-line =
+      let c = closed-run (H .holder) (H .above) .inside in
+      let n : length (code (plug (H .holder) (H .above)) 0) ≡ size g = code-length (plug (H .holder) (H .above)) 0 ∙ ap size (sym (H .whole)) in
+      held-most (run .first) (run .count) (omega (arith, run-first, c .0, c .1, n, some-count)) (omega (arith, run-count, c .0, c .1, n))
+    where
+      some-count : 0 < runCount (H .holder) (H .above)
+      some-count = omega (arith, code-length (H .holder) (codePlace (H .holder) (H .above) 0 .target), size-positive (H .holder))
+
+-- ---- both answers of `put_held`
+pub finished-never : {u : Tree} {marks out out′ : List ℕ} {at next : ℕ} → 1 ≤ length marks → CannotBeGathered (isIn marks) u → Wrote out at out′ next (line HELD (19 ∷ []))
+    → Finished u marks out at out′ next
+finished-never k C w = record {
+  held = cannot;
+  instructions = [];
+  ends = (k, C, refl);
+  wrote = wrote-as w (unfold lines instructionRows in sym (append-nil (line HELD (19 ∷ []))));
+  most = omega (arith, w .ends, never-most);
+}
+
+pub finished-held : {u : Tree} {marks old new out out₁ out₂ : List ℕ} {count holder at next last : ℕ} (D : GatheredTo u marks old new count holder) (run : Run) → IsRun (take count new) holder run
+    → 1 ≤ length marks → Wrote out at out₁ next (line HELD (0 ∷ run .first ∷ run .count ∷ [])) → Wrote out₁ next out₂ last (lines (instructionRows (code (D .result) 0)))
+    → Finished u marks out at out₂ last
+finished-held {u} {marks} {old} {new} {out} {out₁} {out₂} {count} {holder} D run R k w v =
+    let l = gathered-list D .list in
+    let g = D .result in
+    record {
+      held = heldRun (run .first) (run .count);
+      instructions = code g 0;
+      ends = (
+        k,
+        record {
+          tree = g;
+          position = holder;
+          unchanged = D .unchanged;
+          equivalent = D .equivalent;
+          gathered = D .gathered;
+          own = D .own;
+          most = D .most;
+          coded = refl;
+          firstIs = run-first g (isIn marks) holder (D .gathered) (D .most) (take count new) l run R;
+          countIs = run-count g (isIn marks) holder (D .gathered) (D .most) (take count new) l run R;
+        },
+      );
+      wrote = wrote-as (wrote-then w v) (unfold lines in refl);
+      most = omega (arith, w .ends, v .ends, tree-code-most g (D .most), run-line g (isIn marks) holder (D .gathered) (D .most) (take count new) l run R);
+    }

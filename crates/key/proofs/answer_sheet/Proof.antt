@@ -1,0 +1,102 @@
+use mathlib.Core.Path.{_≡_, sym, _∙_}
+use Prim.Native.Nat.{ℕ, _+_, _*_, _≤_}
+use native.Mathlib.Omega.{arith}
+use lib.ListN.{length, take, replicate}
+use lib.Seq.{length-take-le}
+use Rattle.sheet.specs.Reading.{State}
+use Rattle.key.proofs.EncodingLaws.{zeros-length}
+use Rattle.key.proofs.AnswerLaws.{IsRead, is-read, read-copied, read-marks, read-answered, read-most}
+use borrow.Author.Needs.{needs}
+use Rattle.key.proofs.answer_sheet.Statement.{statement}
+use Rattle.key.proofs.answer_sheet.Tie as tie
+use Rattle.key.proofs.answer_sheet.Reads as reads
+use Rattle.key.proofs.answer_sheet.Lts as lts
+use Rattle.key.proofs.finish.Reads as finish-reads
+use Rattle.key.proofs.lift_all.Reads as lift-all-reads
+use Rattle.tree.proofs.copy.Reads as copy-reads
+
+-- src/lib.rt:145:16
+array-share-prefix-entries : tie.Need-array-share-prefix-entries
+array-share-prefix-entries c = let p = c .before .before .before .pre .0 in is-read (c .before .before .before .args .sheet .now) (p .0) (c .before .before .before .args .read) (p .1) (p .2) .long
+
+-- src/lib.rt:145:16
+slice-aggregate-copy : tie.Need-slice-aggregate-copy
+slice-aggregate-copy c = let p = c .before .before .before .before .pre .0 in sym (length-take-le (c .before .before .before .before .args .read .nodes) (c .before .before .before .before .args .read .tree) (is-read (c .before .before .before .before .args .sheet .now) (p .0) (c .before .before .before .before .args .read) (p .1) (p .2) .long))
+
+-- src/lib.rt:145:35
+slice-aggregate-copy-2 : tie.Need-slice-aggregate-copy-2
+slice-aggregate-copy-2 c = search needs
+
+-- src/lib.rt:145:5
+copy-requires : tie.Need-copy-requires
+copy-requires c κs = let p = c .before .before .before .before .before .pre .0 in
+    let I = is-read (c .before .before .before .before .before .args .sheet .now) (p .0) (c .before .before .before .before .before .args .read) (p .1) (p .2) in
+    omega (arith, length-take-le (c .before .before .before .before .before .args .read .nodes) (c .before .before .before .before .before .args .read .tree) (I .long), I .counted, I .most)
+
+-- src/lib.rt:146:56
+slice-aggregate-lift-all : tie.Need-slice-aggregate-lift-all
+slice-aggregate-lift-all c = search needs
+
+-- src/lib.rt:146:9
+lift-all-requires : tie.Need-lift-all-requires
+lift-all-requires c κs = let p = c .before .before .before .before .before .before .before .before .before .pre in
+    let I = is-read (c .before .before .before .before .before .before .before .before .before .args .sheet .now) (p .0 .0) (c .before .before .before .before .before .before .before .before .before .args .read) (p .0 .1) (p .0 .2) in
+    let s = c .before .before .before .copy .ensures .same in
+    ((I .has .tree, p .0 .0 .lifts, read-copied I (zeros-length 8191) (c .before .before .before .copy .ensures), I .asks), omega (arith, s, zeros-length 8191, I .counted, I .most), omega (arith, s, zeros-length 8191), omega (arith, I .few, p .1))
+
+-- src/lib.rt:150:12
+array-share-prefix-tree : tie.Need-array-share-prefix-tree
+array-share-prefix-tree c = let p = c .before .before .before .before .before .before .before .before .before .before .before .before .before .before .pre in
+    let I = is-read (c .before .before .before .before .before .before .before .before .before .before .before .before .before .before .args .sheet .now) (p .0 .0) (c .before .before .before .before .before .before .before .before .before .before .before .before .before .before .args .read) (p .0 .1) (p .0 .2) in
+    let L = c .before .before .before .before .lift-all .ensures (I .has .tree) (p .0 .0 .lifts) (read-copied I (zeros-length 8191) (c .before .before .before .before .before .before .before .before .copy .ensures)) (I .asks) in
+    omega (arith, L .fits, c .before .before .before .before .lift-all .kept .1 .1 .1 .0, c .before .before .before .before .before .before .before .before .copy .ensures .same, zeros-length 8191)
+
+-- src/lib.rt:150:12
+slice-aggregate-finish : tie.Need-slice-aggregate-finish
+slice-aggregate-finish c = let p = c .before .before .before .before .before .before .before .before .before .before .before .before .before .before .before .pre in
+    let I = is-read (c .before .before .before .before .before .before .before .before .before .before .before .before .before .before .before .args .sheet .now) (p .0 .0) (c .before .before .before .before .before .before .before .before .before .before .before .before .before .before .before .args .read) (p .0 .1) (p .0 .2) in
+    let L = c .before .before .before .before .before .lift-all .ensures (I .has .tree) (p .0 .0 .lifts) (read-copied I (zeros-length 8191) (c .before .before .before .before .before .before .before .before .before .copy .ensures)) (I .asks) in
+    sym (length-take-le (c .before .before .before .before .before .lift-all .result .nodes) (c .before .before .before .before .before .lift-all .last .1 .1 .1 .0) (omega (arith, L .fits, c .before .before .before .before .before .lift-all .kept .1 .1 .1 .0, c .before .before .before .before .before .before .before .before .before .copy .ensures .same, zeros-length 8191)))
+
+-- src/lib.rt:150:27
+array-share-prefix-marks : tie.Need-array-share-prefix-marks
+array-share-prefix-marks c = let p = c .before .before .before .before .before .before .before .before .before .before .before .before .before .before .before .pre .0 in is-read (c .before .before .before .before .before .before .before .before .before .before .before .before .before .before .before .args .sheet .now) (p .0) (c .before .before .before .before .before .before .before .before .before .before .before .before .before .before .before .args .read) (p .1) (p .2) .marks-long
+
+-- src/lib.rt:150:27
+slice-aggregate-finish-2 : tie.Need-slice-aggregate-finish-2
+slice-aggregate-finish-2 c = let p = c .before .before .before .before .before .before .before .before .before .before .before .before .before .before .before .before .pre .0 in sym (length-take-le (c .before .before .before .before .before .before .before .before .before .before .before .before .before .before .before .before .args .read .marked) (c .before .before .before .before .before .before .before .before .before .before .before .before .before .before .before .before .args .read .marks) (is-read (c .before .before .before .before .before .before .before .before .before .before .before .before .before .before .before .before .args .sheet .now) (p .0) (c .before .before .before .before .before .before .before .before .before .before .before .before .before .before .before .before .args .read) (p .1) (p .2) .marks-long))
+
+-- src/lib.rt:150:5
+finish-requires : tie.Need-finish-requires
+finish-requires c κs = let p = c .before .before .before .before .before .before .before .before .before .before .before .before .before .before .before .before .before .pre in
+    let I = is-read (c .before .before .before .before .before .before .before .before .before .before .before .before .before .before .before .before .before .args .sheet .now) (p .0 .0) (c .before .before .before .before .before .before .before .before .before .before .before .before .before .before .before .before .before .args .read) (p .0 .1) (p .0 .2) in
+    let L = c .before .before .before .before .before .before .before .lift-all .ensures (I .has .tree) (p .0 .0 .lifts) (read-copied I (zeros-length 8191) (c .before .before .before .before .before .before .before .before .before .before .before .copy .ensures)) (I .asks) in
+    ((_, L .holds, read-marks I), omega (arith, read-most I L, L .wrote .same, p .1))
+
+-- src/lib.rt:138:1
+same-length : tie.Need-same-length
+same-length c = search needs
+
+-- src/lib.rt:138:1
+returns : tie.Need-returns
+returns c = λ st e f. let I = is-read (c .before .before .before .before .before .before .before .before .before .before .before .before .before .before .before .before .before .before .before .before .args .sheet .now) st (c .before .before .before .before .before .before .before .before .before .before .before .before .before .before .before .before .before .before .before .before .args .read) e f in
+    let L = c .before .before .before .before .before .before .before .before .before .before .lift-all .ensures (I .has .tree) (st .lifts) (read-copied I (zeros-length 8191) (c .before .before .before .before .before .before .before .before .before .before .before .before .before .before .copy .ensures)) (I .asks) in
+    read-answered I L (c .before .before .finish .ensures _ (L .holds) (read-marks I))
+
+pub answer-sheet-spec : {M : Type 1} → statement M
+answer-sheet-spec =
+    tie.close
+    (tie.spec
+    array-share-prefix-entries
+    slice-aggregate-copy
+    slice-aggregate-copy-2
+    copy-requires
+    slice-aggregate-lift-all
+    lift-all-requires
+    array-share-prefix-tree
+    slice-aggregate-finish
+    array-share-prefix-marks
+    slice-aggregate-finish-2
+    finish-requires
+    same-length
+    returns)

@@ -1,0 +1,105 @@
+use Rattle.sheet.specs.declared.LineAt.{LineAt}
+use Rattle.key.proofs.LiftOneLaws.{front-size}
+use mathlib.Core.Path.{_≡_, refl, sym, ap, _∙_}
+use mathlib.Core.List.{List}
+use Prim.Native.Nat.{ℕ, _+_, _-_, _*_, _≤_}
+use native.Mathlib.Omega.{arith}
+use borrow.Author.Needs.{needs}
+use lib.ListN.{length, take}
+use Rattle.tree.specs.Tree.{Tree, mostNodes}
+use Rattle.sheet.specs.Reading.{LiftLine}
+use Rattle.key.specs.Inner.{IsList, Asked, LiftedAll}
+use Rattle.key.proofs.LiftAllLaws.{Reached, reached-start, reached-turn, reached-next, reached-end}
+use Rattle.key.proofs.lift_all.Statement.{statement}
+use Rattle.key.proofs.lift_all.Tie as tie
+use Rattle.key.proofs.lift_all.Reads as reads
+use Rattle.key.proofs.lift_all.Lts as lts
+use Rattle.key.proofs.lift_numbers.Reads as lift-numbers-reads
+use Rattle.key.proofs.lift_one.Reads as lift-one-reads
+use Rattle.sheet.proofs.line_at.Reads as line-at-reads
+
+abbrev Inv-loop : tie.InvT-loop
+Inv-loop sheet start count tree₀ nodes out₀ at₀ entries₀ next₀ i₀ tree out at entries next i =
+    (i ≤ count) × (entries ≤ length tree) × (mostNodes ≤ length tree) × (length out ≡ length out₀) × (length tree ≡ length tree₀)
+    × ((t : Tree) (ls : List LiftLine) → IsList (take nodes tree₀) t → Asked sheet start count ls → Reached sheet t ls count i tree entries out₀ out at next)
+
+abbrev μ-loop : tie.MeasureT-loop
+μ-loop sheet start count tree₀ nodes out₀ at₀ entries₀ next₀ i₀ tree out at entries next i = count - i
+
+-- src/lib.rt:115:5
+loop-holds : tie.Need-loop-holds Inv-loop μ-loop
+loop-holds c = let a = c .before .before .before .args in (omega arith, c .before .before .before .pre .1, c .before .before .before .pre .2, refl, refl, λ t ls w k. reached-start (a .sheet .now) t ls (a .start) (a .count) (a .tree .now) (a .nodes) (a .out .now) w k)
+
+-- src/lib.rt:116:13
+line-at-requires : tie.Need-line-at-requires Inv-loop μ-loop
+line-at-requires c κs = search needs
+
+-- src/lib.rt:118:13
+lift-numbers-requires : tie.Need-lift-numbers-requires Inv-loop μ-loop
+lift-numbers-requires c κs = search needs
+
+-- src/lib.rt:119:13
+lift-one-requires : tie.Need-lift-one-requires Inv-loop μ-loop
+lift-one-requires c κs = let l = c .before .before .before .before .before .loop in
+    let p = c .before .before .before .before .before .before .before .before .before .pre in
+    let R = l .inv .5 (p .0 .0) (p .0 .1) (p .0 .2) (p .0 .3) in
+    let T = reached-turn R (c .before .before .before .before .loop-test .taken) in
+    let q = c .before .before .lift-numbers .ensures (T .line .position) (T .line .levels) (ap (λ (x : LineAt). x .line) (c .before .before .before .line-at .ensures) ∙ T .read) in
+    ((R .present, R .holds), l .inv .1, l .inv .2, omega (arith, q .0, T .range .position-most), omega (arith, q .1, T .range .levels-most), omega (arith, R .most, p .3, l .inv .3))
+
+-- src/lib.rt:123:9
+add-i : tie.Need-add-i Inv-loop μ-loop
+add-i c = search needs
+
+-- src/lib.rt:115:5
+loop-less : tie.Need-loop-less Inv-loop μ-loop
+loop-less c = omega arith
+
+-- src/lib.rt:115:5
+loop-again : tie.Need-loop-again Inv-loop μ-loop
+loop-again c = let l = c .before .before .before .before .before .before .before .before .before .before .loop in
+    let p = c .before .before .before .before .before .before .before .before .before .before .before .before .before .before .pre in
+    let R = l .inv .5 (p .0 .0) (p .0 .1) (p .0 .2) (p .0 .3) in
+    let L = c .before .before .before .before .lift-one .ensures (R .present) (R .holds) in
+    let k = c .before .before .before .before .lift-one .kept in (
+      omega arith,
+      omega (arith, L .fits, l .inv .2, k .0),
+      omega (arith, l .inv .2, k .0),
+      k .1 .1 .1 .1 .0 ∙ l .inv .3,
+      k .0 ∙ l .inv .4,
+      λ t ls w a. let S = l .inv .5 t ls w a in
+          let T = reached-turn S (c .before .before .before .before .before .before .before .before .before .loop-test .taken) in
+          let q = c .before .before .before .before .before .before .before .lift-numbers .ensures (T .line .position) (T .line .levels) (ap (λ (x : LineAt). x .line) (c .before .before .before .before .before .before .before .before .line-at .ensures) ∙ T .read) in
+          rw (c .before .before .before .before .before .before .before .before .line-at .ensures) (reached-next S (c .before .before .before .before .before .before .before .before .before .loop-test .taken) T (rw (q .0, q .1) at (c .before .before .before .before .lift-one .ensures (S .present) (S .holds)))),
+    )
+
+-- src/lib.rt:107:1
+same-length : tie.Need-same-length Inv-loop μ-loop
+same-length c = c .before .loop .inv .4
+
+-- src/lib.rt:107:1
+same-length-2 : tie.Need-same-length-2 Inv-loop μ-loop
+same-length-2 c = c .before .loop .inv .3
+
+-- src/lib.rt:107:1
+returns : tie.Need-returns Inv-loop μ-loop
+returns c = λ t ls w a. let l = c .before .loop in
+    let R = l .inv .5 t ls w a in
+    reached-end R (omega arith) (a .counted) (omega (arith, front-size (l .tree) (l .entries) (R .present) (R .holds) (l .inv .1), R .holds .most))
+
+pub lift-all-spec : {M : Type 1} → statement M
+lift-all-spec =
+    tie.close
+    (tie.spec
+    Inv-loop
+    μ-loop
+    loop-holds
+    line-at-requires
+    lift-numbers-requires
+    lift-one-requires
+    add-i
+    loop-less
+    loop-again
+    same-length
+    same-length-2
+    returns)

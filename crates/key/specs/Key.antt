@@ -1,0 +1,79 @@
+-- Document 01, "The key program": what a key says, and the bytes that say it.
+use mathlib.Core.List.{List, [], _∷_, _++_}
+use Prim.Native.Nat.{ℕ}
+use Rattle.text.specs.Line.{Row, line, lines}
+use Rattle.player.specs.Instructions.{Instruction, load, add, cut}
+
+-- "per lift `LIFT` number position looks"
+pub record LiftAnswer : Type 0 where
+  pub number : ℕ
+  pub position : ℕ
+  pub looks : ℕ
+
+-- "with marks `HELD` 0 first count (the run's first instruction from 1, and its length) or `HELD` 19 and nothing more"
+pub data Held : Type 0 where
+  unmarked : Held
+  heldRun : (first count : ℕ) → Held
+  cannot : Held
+
+-- "It .. prints `NO` number line, or: per lift ..; with marks ..; then the code"
+pub data Key : Type 0 where
+  refusal : (number line : ℕ) → Key
+  answers : List LiftAnswer → Held → List Instruction → Key
+
+-- ---- the words that lines begin with
+abbrev pub NO : List ℕ
+NO = 78 ∷ 79 ∷ []
+
+abbrev pub LIFT : List ℕ
+LIFT = 76 ∷ 73 ∷ 70 ∷ 84 ∷ []
+
+abbrev pub HELD : List ℕ
+HELD = 72 ∷ 69 ∷ 76 ∷ 68 ∷ []
+
+abbrev pub LOAD : List ℕ
+LOAD = 76 ∷ 79 ∷ 65 ∷ 68 ∷ []
+
+abbrev pub ADD : List ℕ
+ADD = 65 ∷ 68 ∷ 68 ∷ []
+
+abbrev pub CUT : List ℕ
+CUT = 67 ∷ 85 ∷ 84 ∷ []
+
+abbrev pub row : List ℕ → List ℕ → Row
+row word numbers = record { word = word; numbers = numbers }
+
+-- a line's bytes
+abbrev pub rowText : Row → List ℕ
+rowText r = line (r .word) (r .numbers)
+
+-- ---- the lines of a key
+abbrev pub liftRow : LiftAnswer → Row
+liftRow a = row LIFT (a .number ∷ a .position ∷ a .looks ∷ [])
+
+unfoldable pub liftRows : List LiftAnswer → List Row
+liftRows [] = []
+liftRows (a ∷ ls) = liftRow a ∷ liftRows ls
+
+abbrev pub heldRows : Held → List Row
+heldRows unmarked = []
+heldRows (heldRun first count) = row HELD (0 ∷ first ∷ count ∷ []) ∷ []
+heldRows cannot = row HELD (19 ∷ []) ∷ []
+
+-- "a code line is `LOAD`, `ADD` or `CUT` and its numbers, LOAD's last 0 left out"
+abbrev pub instructionRow : Instruction → Row
+instructionRow (load target group) = row LOAD (target ∷ group ∷ [])
+instructionRow (add target s t) = row ADD (target ∷ s ∷ t ∷ [])
+instructionRow (cut target s t) = row CUT (target ∷ s ∷ t ∷ [])
+
+unfoldable pub instructionRows : List Instruction → List Row
+instructionRows [] = []
+instructionRows (i ∷ is) = instructionRow i ∷ instructionRows is
+
+abbrev pub rowsOf : Key → List Row
+rowsOf (refusal number line) = row NO (number ∷ line ∷ []) ∷ []
+rowsOf (answers ls held is) = liftRows ls ++ (heldRows held ++ instructionRows is)
+
+-- "The key is the bytes handed to printing": "Fields are parted by one tab and lines end in LF"
+unfoldable pub text : Key → List ℕ
+text k = lines (rowsOf k)

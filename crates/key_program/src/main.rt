@@ -1,0 +1,22 @@
+// Reads a sheet from standard input and prints its key. All the work is `key::key`'s.
+
+// One byte more than a sheet may have is enough to refuse it.
+const MOST_INPUT: usize = 60001;
+
+fn main() {
+    let mut sheet = [0u8; MOST_INPUT];
+    let length = io::read_full(0, &mut sheet);
+    let mut out = [0u8; key::KEY_BYTES];
+    let answer = key::key(&sheet[..length], &mut out);
+    let key::Keyed::Written(count) = answer else {
+        return;
+    };
+    print(&out, count);
+}
+
+// Prints the first `count` bytes.
+fn print(bytes: &[u8], count: usize) {
+    if count <= bytes.len() {
+        io::write_all(1, &bytes[..count]);
+    }
+}

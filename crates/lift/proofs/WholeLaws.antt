@@ -1,0 +1,92 @@
+-- The whole call, test by test.
+use mathlib.Core.Path.{_≡_, refl, sym, ap, subst, _∙_}
+use mathlib.Core.Bool.{Bool, true, false, cond, _||_, true≢false}
+use mathlib.Core.Option.{Option}
+use mathlib.Core.List.{List, []}
+use Prim.Native.Nat.{ℕ, _+_, _≤_, _<_}
+use native.Mathlib.Omega.{arith}
+use borrow.Author.Tests.{lt-ltb, le-ltb, le-leb, lt-leb, leb-false}
+use lib.Dec.{eqb, leb}
+use lib.ListN.{length, take}
+use Rattle.tree.specs.Tree.{Tree, size, mostNodes}
+use Rattle.tree.specs.Context.{Frame, before, Place}
+use Rattle.tree.specs.Parse.{treeOf, isSome, locate}
+use Rattle.tree.specs.Part.{Part}
+use Rattle.tree.specs.Writing.{Wrote}
+use Rattle.tree.proofs.TreeLaws.{postfix-length}
+use Rattle.tree.proofs.ParseLaws.{IsTree, no-tree-of}
+use Rattle.tree.proofs.PartLaws.{part-length, part-of-place}
+use Rattle.tree.proofs.WritingLaws.{wrote-over}
+use Rattle.lift.specs.Standing.{StateIs, Standing}
+use Rattle.lift.specs.Lift.{refused, steps, liftAt, liftIn, liftOf, shortBuffer, notATree, noPosition, badLevels}
+use Rattle.lift.proofs.LevelLaws.{part-level}
+use Rattle.lift.proofs.StepAnswerLaws.{after-long}
+use Rattle.lift.proofs.RunLaws.{take-over}
+
+module _ (room : ℕ) (l : List ℕ) (p k : ℕ) where
+  pub says-11 : room < mostNodes → liftOf room l p k ≡ refused shortBuffer
+  says-11 h = unfold liftOf in simp (lt-ltb room mostNodes h)
+
+  module _ (h : mostNodes ≤ room) where
+    in-tree : liftOf room l p k ≡ liftIn (treeOf l) p k
+    in-tree = unfold liftOf in simp (le-ltb room mostNodes h)
+
+    pub says-12 : isSome (treeOf l) ≡ false → liftOf room l p k ≡ refused notATree
+    says-12 n = in-tree ∙ ap (λ (o : Option Tree). liftIn o p k) (no-tree-of l n)
+
+    module _ (W : IsTree l) where
+      size-is : size (W .tree) ≡ length l
+      size-is = sym (ap length (W .list) ∙ postfix-length (W .tree))
+
+      abbrev pub place : Place
+      place = locate (W .tree) [] p
+
+      in-this : liftOf room l p k ≡ cond (leb (size (W .tree)) p) (refused noPosition) (liftAt place k)
+      in-this = in-tree ∙ ap (λ (o : Option Tree). liftIn o p k) (W .is)
+
+      pub says-13 : length l ≤ p → liftOf room l p k ≡ refused noPosition
+      says-13 q = in-this ∙ ap (λ (b : Bool). cond b (refused noPosition) (liftAt place k)) (le-leb (size (W .tree)) p (omega (arith, size-is)))
+
+      module _ (q : p < length l) where
+        pub the-part : Part l (length (before (place .above))) (p + 1) (place .part) (place .above)
+        the-part =
+            subst (λ (x : List ℕ). Part x (length (before (place .above))) (p + 1) (place .part) (place .above)) (sym (W .list))
+            (part-of-place (W .tree) p (length (before (place .above))) (omega (arith, size-is)) refl)
+
+        at-place : liftOf room l p k ≡ liftAt place k
+        at-place = in-this ∙ ap (λ (b : Bool). cond b (refused noPosition) (liftAt place k)) (lt-leb (size (W .tree)) p (omega (arith, size-is)))
+
+        -- by the test of the levels, where `level` is the part's
+        by-test : (level : ℕ) → level ≡ length (place .above) → (b : Bool) → (eqb k 0 || leb level k) ≡ b → liftOf room l p k ≡ cond b (refused badLevels) (steps k (place .part) (place .above) 0)
+        by-test level e b t =
+            at-place
+            ∙ ap (λ (x : Bool). cond x (refused badLevels) (steps k (place .part) (place .above) 0)) (ap (λ (n : ℕ). eqb k 0 || leb n k) (sym e) ∙ t)
+
+        pub says-14 : (level : ℕ) → level ≡ length (place .above) → (eqb k 0 || leb level k) ≡ true → liftOf room l p k ≡ refused badLevels
+        says-14 level e t = by-test level e true t
+
+        pub runs-on : (level : ℕ) → level ≡ length (place .above) → (eqb k 0 || leb level k) ≡ false → liftOf room l p k ≡ steps k (place .part) (place .above) 0
+        runs-on level e t = by-test level e false t
+
+pub levels-below : (k level : ℕ) → (eqb k 0 || leb level k) ≡ false → k < level
+levels-below k level t = leb-false level k (go (eqb k 0) (leb level k) t)
+  where
+    go : (x y : Bool) → (x || y) ≡ false → y ≡ false
+    go true y e = absurd (true≢false e)
+    go false y e = e
+
+-- ---- the first buffer begins with the list
+pub stands-first : {l x : List ℕ} {zeros : List ℕ} {r from to level state : ℕ} {a : Tree} {c : List Frame} → Wrote zeros 0 x r l → length l ≤ length zeros → Part l from to a c → level ≡ length c → StateIs c state
+    → Standing (take (length l) x) (record { from = from; to = to; level = level; state = state }) a c
+stands-first {l} {x} {zeros} W h P e s = record {
+  part = rw (ap (take (length l)) (wrote-over W h) ∙ take-over l zeros) P;
+  level = e;
+  state = s;
+}
+
+-- a part's level does not turn on the tree and the context that are named
+pub same-level : {l : List ℕ} {f g t : ℕ} {a b : Tree} {c d : List Frame} → Part l f t a c → Part l g t b d → length c ≡ length d
+same-level P Q = sym (part-level P) ∙ part-level Q
+
+pub level-within : {l : List ℕ} {f t : ℕ} {a : Tree} {c : List Frame} → Part l f t a c → length c ≤ length l
+level-within {l} {f} {t} {a} {c} P = omega (arith, after-long c, part-length P)

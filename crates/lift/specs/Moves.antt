@@ -1,0 +1,107 @@
+-- Document 01, "The lift": the states, the inputs, the move entries (Table 9) and the next states (Table 10).
+use mathlib.Core.Bool.{Bool, true, false, cond, _||_}
+use mathlib.Core.List.{List, [], _∷_, _++_}
+use Rattle.tree.specs.Tree.{Operator, union, difference, Tree, node}
+use Rattle.tree.specs.Context.{Side, left, right, Frame, frame}
+
+-- "A is the part lifted, B its sibling, C its uncle, D the sibling of the grandparent's part T": formulas over these
+pub data Formula : Type 0 where
+  A B C D : Formula
+  join : Operator → Formula → Formula → Formula
+
+infixl 70 _U_
+infixl 70 _−_
+abbrev pub _U_ : Formula → Formula → Formula
+x U y = join union x y
+
+abbrev pub _−_ : Formula → Formula → Formula
+x − y = join difference x y
+
+pub data State : Type 0 where
+  state1 state2 state3 state4 state5 state6 state7 state8 state9 : State
+
+-- "States (where U stands, either order of its operands): 1 (A U B) U C; 2 C−(A U B); 3 (A−B)−C; 4 (B−A)−C; 5 (A U B)−C;
+-- 6 (A−B) U C; 7 (B−A) U C; 8 C−(A−B); 9 C−(B−A)", by A's side and its parent's operator, the parent's side and the grandparent's operator
+abbrev pub stateOf : Side → Operator → Side → Operator → State
+stateOf s union t union = state1
+stateOf s union right difference = state2
+stateOf left difference left difference = state3
+stateOf right difference left difference = state4
+stateOf s union left difference = state5
+stateOf left difference t union = state6
+stateOf right difference t union = state7
+stateOf left difference right difference = state8
+stateOf right difference right difference = state9
+
+pub data Input : Type 0 where
+  inputA inputB inputC inputD : Input
+
+-- "Input: a is T U D, b is T−D, c is D U T, d is D−T", by T's side and the operator above it
+abbrev pub inputOf : Side → Operator → Input
+inputOf left union = inputA
+inputOf left difference = inputB
+inputOf right union = inputC
+inputOf right difference = inputD
+
+-- the one of four, under a, b, c, d
+abbrev pub under : {X : Type 0} → Input → X → X → X → X → X
+under inputA a b c d = a
+under inputB a b c d = b
+under inputC a b c d = c
+under inputD a b c d = d
+
+-- what a step does: it replaces T alone by a formula; or T with D, by one for each input a, b, c, d; or T with D under input b,
+-- and under the others it is the step of A's parent
+pub data Move : Type 0 where
+  replaceT : Formula → Move
+  replaceTWithD : Formula → Formula → Formula → Formula → Move
+  passOnUnlessB : Formula → Move
+
+abbrev pub moveOf : State → Move
+moveOf state1 = replaceT (A U (B U C))
+moveOf state2 = replaceT ((C − B) − A)
+moveOf state3 = replaceT (A − (B U C))
+moveOf state4 = replaceT ((B − C) − A)
+moveOf state5 = replaceTWithD ((D U (B − C)) U (A − C)) ((A − (C U D)) U ((B − C) − D)) ((A − C) U (D U (B − C))) ((D − (B − C)) − (A − C))
+moveOf state6 = replaceTWithD ((D U C) U (A − B)) ((A − (B U D)) U (C − D)) ((A − B) U (D U C)) ((D − C) − (A − B))
+moveOf state7 = replaceTWithD ((D U C) U (B − A)) (((B − D) − A) U (C − D)) ((B − A) U (D U C)) ((D − C) − (B − A))
+moveOf state8 = replaceTWithD ((D U (C − (C − B))) U (C − A)) (((C − D) − A) U ((C − (C − B)) − D)) ((C − A) U (D U (C − (C − B)))) ((D − (C − (C − B))) − (C − A))
+moveOf state9 = passOnUnlessB ((C − D) − (B − A))
+
+-- "The state after a step, under inputs a b c d"
+abbrev pub nextState : State → Input → State
+nextState state1 i = under i state1 state5 state1 state2
+nextState state2 i = under i state7 state4 state7 state9
+nextState state3 i = under i state6 state3 state6 state8
+nextState state4 i = under i state7 state4 state7 state9
+nextState state5 i = under i state6 state6 state6 state8
+nextState state6 i = under i state6 state6 state6 state8
+nextState state7 i = under i state7 state7 state7 state9
+nextState state8 i = under i state7 state7 state7 state9
+nextState state9 i = state9
+
+-- a formula's value, of that of an operator and those of the parts
+abbrev pub value : {X : Type 0} → (Operator → X → X → X) → X → X → X → X → Formula → X
+value f a b c d A = a
+value f a b c d B = b
+value f a b c d C = c
+value f a b c d D = d
+value f a b c d (join o p q) = f o (value f a b c d p) (value f a b c d q)
+
+-- whether a formula names A
+abbrev pub namesA : Formula → Bool
+namesA A = true
+namesA B = false
+namesA C = false
+namesA D = false
+namesA (join o p q) = namesA p || namesA q
+
+-- A's context in a formula that names A once, over the trees b, c and d
+abbrev pub framesOf : Tree → Tree → Tree → Formula → List Frame
+framesOf b c d A = []
+framesOf b c d B = []
+framesOf b c d C = []
+framesOf b c d D = []
+framesOf b c d (join o p q) =
+    cond (namesA p) (framesOf b c d p ++ (frame left o (value node b b c d q) ∷ []))
+    (framesOf b c d q ++ (frame right o (value node b b c d p) ∷ []))

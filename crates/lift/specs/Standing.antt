@@ -1,0 +1,53 @@
+-- A node as the code's functions see it: its part's entries, its level and its state. Only contracts of private functions cite this file.
+use mathlib.Core.Path.{_≡_}
+use mathlib.Core.List.{List, [], _∷_}
+use Prim.Native.Nat.{ℕ}
+use lib.ListN.{length}
+use Rattle.tree.specs.Tree.{Tree}
+use Rattle.tree.specs.Context.{Frame, frame}
+use Rattle.tree.specs.Part.{Part, kindOf}
+use Rattle.lift.specs.Moves.{State, state1, state2, state3, state4, state5, state6, state7, state8, state9, stateOf, Input, under}
+use Rattle.lift.specs.declared.Node.{Node}
+
+-- a state's number
+abbrev pub stateNumber : State → ℕ
+stateNumber state1 = 1
+stateNumber state2 = 2
+stateNumber state3 = 3
+stateNumber state4 = 4
+stateNumber state5 = 5
+stateNumber state6 = 6
+stateNumber state7 = 7
+stateNumber state8 = 8
+stateNumber state9 = 9
+
+-- an input's number: that of the kind of T's frame
+abbrev pub inputNumber : Input → ℕ
+inputNumber i = under i 0 1 2 3
+
+-- n is the number of A's state, where A has a grandparent
+abbrev pub StateIs : List Frame → ℕ → Type 0
+StateIs [] n = Unit {0}
+StateIs (f ∷ []) n = Unit {0}
+StateIs (frame s o b ∷ (frame t q c ∷ r)) n = n ≡ stateNumber (stateOf s o t q)
+
+-- the number of A's input, 0 to 3 for a to d, where there is a D; else 0
+abbrev pub inputAbove : List Frame → ℕ
+inputAbove [] = 0
+inputAbove (f ∷ []) = 0
+inputAbove (f ∷ (g ∷ [])) = 0
+inputAbove (f ∷ (g ∷ (frame u w d ∷ r))) = kindOf u w
+
+-- the part that ends before `to` is a part of the list of a tree, and `level` is its level
+abbrev pub AtLevel : List ℕ → ℕ → ℕ → Type 0
+AtLevel list to level = (from : ℕ) × (a : Tree) × (c : List Frame) × Part list from to a c × (level ≡ length c)
+
+-- the node is the part a with the context c in the list of a tree
+pub record Standing (list : List ℕ) (n : Node) (a : Tree) (c : List Frame) : Type 0 where
+  pub part : Part list (n .from) (n .to) a c
+  pub level : n .level ≡ length c
+  pub state : StateIs c (n .state)
+
+-- the node is a part of the list of a tree
+abbrev pub Stands : List ℕ → Node → Type 0
+Stands list n = (a : Tree) × (c : List Frame) × Standing list n a c

@@ -1,0 +1,227 @@
+// Lifts 01's samples (i) to (vi), lifts at every limit, and lifts that are refused with each number. Before each case every number of
+// the buffer is 60000. A line has the case; the number, the position and the looks that the key would print; the new tree's length; how
+// many numbers of the buffer still are 60000; a checksum of the whole buffer; and the new tree's first entries.
+ghost use Prim.Native.Nat.{_≤_};
+ghost use lib.ListN.{length};
+use lift::Lifted;
+use tree::DIFFERENCE;
+use tree::UNION;
+
+const BEFORE: u16 = 60000;
+
+// Sets the list's numbers from index `from` up to, not including, `to`.
+fn set_all(list: &mut [u16], from: usize, to: usize, x: u16)
+    requires { ⌜ to ≤ length (now list) ⌝ }
+{
+    let mut i = from;
+    while i < to {
+        list[i] = x;
+        i += 1;
+    }
+}
+
+// Sets one number, where there is one.
+fn put(list: &mut [u16], at: usize, x: u16) {
+    if at < list.len() {
+        list[at] = x;
+    }
+}
+
+// Goes on from index `from` to the end with a leaf and an operator in turn.
+fn chain(list: &mut [u16], from: usize, leaf: u16, operator: u16) {
+    let mut i = from;
+    let mut next = leaf;
+    while i < list.len() {
+        list[i] = next;
+        next = if next == leaf { operator } else { leaf };
+        i += 1;
+    }
+}
+
+// How many numbers are as before.
+fn unchanged(out: &[u16]) -> usize {
+    let mut n: usize = 0;
+    let mut i = 0;
+    while i < out.len() {
+        if out[i] == BEFORE {
+            n += 1;
+        }
+        i += 1;
+    }
+    n
+}
+
+// A checksum that tells the order of the numbers.
+fn checksum(out: &[u16]) -> u64 {
+    let mut sum = 0u64;
+    let mut i = 0;
+    while i < out.len() {
+        sum = (sum * 31 + (out[i] as u64)) % 1000000007;
+        i += 1;
+    }
+    sum
+}
+
+fn print_number(x: u64) {
+    io::print_decimal(1, x);
+    io::write_all(1, b" ");
+}
+
+fn print_entry(x: u16) {
+    if x == UNION {
+        io::write_all(1, b" U");
+        return;
+    }
+    if x == DIFFERENCE {
+        io::write_all(1, b" D");
+        return;
+    }
+    io::write_all(1, b" ");
+    io::print_decimal(1, x as u64);
+}
+
+// The first entries of a tree of this length, at most twelve.
+fn print_front(out: &[u16], length: usize) {
+    let mut i = 0;
+    while i < out.len() {
+        if (i == length) | (i == 12) {
+            return;
+        }
+        print_entry(out[i]);
+        i += 1;
+    }
+}
+
+// The number, the position and the looks as the key prints them, and the length; refused, the line's own position, 0 and 0.
+fn print_answer(answer: Lifted, asked: usize) {
+    match answer {
+        Lifted::Done {
+            length,
+            position,
+            looks,
+        } => {
+            print_number(0);
+            print_number(position as u64);
+            print_number(looks as u64);
+            print_number(length as u64);
+        }
+        Lifted::Refused(number) => {
+            print_number(number as u64);
+            print_number(asked as u64);
+            print_number(0);
+            print_number(0);
+        }
+    }
+}
+
+fn length_of(answer: Lifted) -> usize {
+    match answer {
+        Lifted::Done {
+            length,
+            position: _,
+            looks: _,
+        } => length,
+        Lifted::Refused(_) => 0,
+    }
+}
+
+// Lifts one case with this buffer and prints its line.
+fn show_in(label: &[u8], tree: &[u16], position: usize, levels: usize, out: &mut [u16]) {
+    let answer = lift::lift(tree, position, levels, out);
+    io::write_all(1, label);
+    io::write_all(1, b": ");
+    print_answer(answer, position);
+    print_number(unchanged(out) as u64);
+    io::print_decimal(1, checksum(out));
+    print_front(out, length_of(answer));
+    io::write_all(1, b"\n");
+}
+
+// The same with a buffer of 8,191 numbers.
+fn show(label: &[u8], tree: &[u16], position: usize, levels: usize) {
+    let mut out = [BEFORE; 8191];
+    show_in(label, tree, position, levels, &mut out);
+}
+
+// 01's samples.
+fn samples() {
+    show(b"(i)", &[1, 2, 65002, 3, 65002, 4, 65001, 5, 65002], 0, 2);
+    show(b"(ii)", &[1, 2, 65002], 0, 1);
+    show(b"(iii)", &[1, 2, 65002, 3, 65001], 0, 1);
+    show(b"(iv)", &[5, 4, 3, 2, 1, 65002, 65002, 65002, 65002], 4, 1);
+    show(b"(v)", &[3, 2, 1, 65002, 65002, 4, 65002], 2, 1);
+    show(b"(vi)", &[3, 2, 1, 65002, 65002, 4, 65001, 5, 65001], 2, 1);
+}
+
+// Each refusal but 16, and the second step of two refused.
+fn refusals() {
+    let mut short = [BEFORE; 8190];
+    show_in(b"11 a buffer of 8190", &[1, 2, 65002], 0, 1, &mut short);
+    show(b"12 two trees", &[1, 2], 0, 1);
+    show(b"12 no operand", &[65001], 0, 1);
+    show(b"12 no group", &[10000, 2, 65001], 0, 1);
+    show(b"13", &[1, 2, 65002], 3, 1);
+    show(b"14 no levels", &[1, 2, 65002, 3, 65002], 0, 0);
+    show(b"14 as many as the level", &[1, 2, 65002, 3, 65002], 0, 2);
+    show(b"one less", &[1, 2, 65002, 3, 65002], 0, 1);
+    show(
+        b"15 at the second step",
+        &[1, 2, 65002, 3, 65001, 4, 65001],
+        0,
+        2,
+    );
+}
+
+// A chain of unions: the last position and the one after it, and many levels.
+fn long_chains() {
+    let mut list = [1u16; 8191];
+    chain(&mut list, 1, 2, UNION);
+    show(b"position 8190, the root", &list, 8190, 1);
+    show(b"position 8191", &list, 8191, 1);
+    show(b"99 levels", &list, 0, 99);
+    show(b"4094 levels", &list, 0, 4094);
+    show(b"4095 levels", &list, 0, 4095);
+    let mut long = [1u16; 8193];
+    chain(&mut long, 1, 2, UNION);
+    show(b"12 a tree of 8193", &long, 0, 1);
+}
+
+// (1 U 2)-3 joined with a chain: a step in state 5 makes it two nodes longer.
+fn join_chain(list: &mut [u16]) {
+    chain(list, 6, 5, UNION);
+    put(list, 0, 1);
+    put(list, 1, 2);
+    put(list, 2, UNION);
+    put(list, 3, 3);
+    put(list, 4, DIFFERENCE);
+    put(list, 5, 4);
+    let count = list.len();
+    if 0 < count {
+        put(list, count - 1, UNION);
+    }
+}
+
+fn results() {
+    let mut shorter = [0u16; 8189];
+    join_chain(&mut shorter);
+    show(b"a result of 8191", &shorter, 0, 1);
+    let mut list = [0u16; 8191];
+    join_chain(&mut list);
+    show(b"16 a result of 8193", &list, 0, 1);
+}
+
+// A difference subtracted from a difference and so on, 4,093 deep, under two unions: each step is passed on to the last.
+fn passed_on() {
+    let mut list = [7u16; 8191];
+    chain(&mut list, 8187, 4, UNION);
+    set_all(&mut list, 4094, 8187, DIFFERENCE);
+    show(b"passed on 4092 times", &list, 4093, 1);
+}
+
+fn main() {
+    samples();
+    refusals();
+    long_chains();
+    results();
+    passed_on();
+}

@@ -1,0 +1,4 @@
+pub mod Tests
+pub mod Packing
+pub mod Lists
+pub mod Holding

@@ -1,0 +1,37 @@
+-- Tests joined by "or" that came out false, and what an instruction without fault 23 says of its numbers.
+use mathlib.Core.Path.{_≡_, refl}
+use mathlib.Core.Bool.{Bool, true, false, cond, _||_, not, true≢false}
+use Prim.Native.Nat.{ℕ, _≤_, _<_}
+use lib.Dec.{eqb, leb, ltb}
+use borrow.Author.Tests.{eq-eqb, ne-eqb, leb-false, ltb-false}
+use Rattle.player.specs.Limits.{registerCount, lastGroup, outside}
+use Rattle.player.specs.Instructions.{loadKind, addKind, cutKind}
+use Rattle.player.specs.Playing.{wrongInstruction}
+
+pub or-left : (x y : Bool) → (x || y) ≡ false → x ≡ false
+or-left true y h = h
+or-left false y h = refl
+
+pub or-right : (x y : Bool) → (x || y) ≡ false → y ≡ false
+or-right true y h = absurd (true≢false h)
+or-right false y h = h
+
+module _ (kind target s t : ℕ) (right : wrongInstruction kind target s t ≡ false) where
+  pub right-target : target < registerCount
+  right-target = leb-false registerCount target (or-left _ _ right)
+
+  -- what the test of the two last numbers comes to for a LOAD, and for the others
+  rest : cond (eqb kind loadKind) (outside 1 lastGroup s || not (eqb t 0)) (outside addKind cutKind kind || (leb registerCount s || leb registerCount t)) ≡ false
+  rest = or-right (leb registerCount target) _ right
+
+  pub right-group : kind ≡ loadKind → s ≤ lastGroup
+  right-group e = ltb-false lastGroup s (or-right (ltb s 1) _ (or-left (outside 1 lastGroup s) (not (eqb t 0)) (rw (eq-eqb kind loadKind e) at rest)))
+
+  sources : (kind ≡ loadKind → ⊥) → (leb registerCount s || leb registerCount t) ≡ false
+  sources n = or-right (outside addKind cutKind kind) _ (rw (ne-eqb kind loadKind n) at rest)
+
+  pub right-s : (kind ≡ loadKind → ⊥) → s < registerCount
+  right-s n = leb-false registerCount s (or-left _ _ (sources n))
+
+  pub right-t : (kind ≡ loadKind → ⊥) → t < registerCount
+  right-t n = leb-false registerCount t (or-right (leb registerCount s) _ (sources n))

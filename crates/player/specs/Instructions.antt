@@ -1,0 +1,97 @@
+-- Instructions, what they do to the registers, and the numbers that they are written as. 01, "The instructions".
+use mathlib.Core.Bool.{Bool, false, not, cond, _&&_, _||_}
+use mathlib.Core.List.{List, [], _∷_, _++_}
+use Prim.Native.Nat.{ℕ, _≤_, _<_}
+use lib.Dec.{eqb}
+use Rattle.player.specs.Limits.{registerCount, lastGroup}
+
+-- A set of lamps, by lamp number.
+abbrev pub Lamps : Type 0
+Lamps = ℕ → Bool
+
+-- "A rig gives each group its set of lamps"
+abbrev pub Rig : Type 0
+Rig = ℕ → Lamps
+
+-- The set of lamps in each register.
+abbrev pub Registers : Type 0
+Registers = ℕ → Lamps
+
+-- "LOAD (1) target, group, 0. ADD (2) target, s, t .. CUT (3) target, s, t"
+pub data Instruction : Type 0 where
+  load : (target group : ℕ) → Instruction
+  add : (target s t : ℕ) → Instruction
+  cut : (target s t : ℕ) → Instruction
+
+abbrev pub union : Lamps → Lamps → Lamps
+union f g lamp = f lamp || g lamp
+
+-- "s without t"
+abbrev pub difference : Lamps → Lamps → Lamps
+difference f g lamp = f lamp && not (g lamp)
+
+-- Registers "empty at first".
+abbrev pub empty : Registers
+empty register lamp = false
+
+-- The registers once the set f is put into one of them.
+abbrev pub put : Registers → ℕ → Lamps → Registers
+put R target f register = cond (eqb register target) f (R register)
+
+-- What one instruction does.
+abbrev pub step : Rig → Instruction → Registers → Registers
+step rig (load target group) R = put R target (rig group)
+step rig (add target s t) R = put R target (union (R s) (R t))
+step rig (cut target s t) R = put R target (difference (R s) (R t))
+
+-- What a list of instructions does, the first one first.
+unfoldable pub run : Rig → List Instruction → Registers → Registers
+run rig [] R = R
+run rig (i ∷ is) R = run rig is (step rig i R)
+
+-- "empty at first; the answer is in 0"
+abbrev pub answer : Rig → List Instruction → Lamps
+answer rig is = run rig is empty 0
+
+-- "An instruction is four 16-bit numbers: kind, target, and two more"
+abbrev pub loadKind : ℕ
+loadKind = 1
+
+abbrev pub addKind : ℕ
+addKind = 2
+
+abbrev pub cutKind : ℕ
+cutKind = 3
+
+abbrev pub numbers : Instruction → List ℕ
+numbers (load target group) = loadKind ∷ target ∷ group ∷ 0 ∷ []
+numbers (add target s t) = addKind ∷ target ∷ s ∷ t ∷ []
+numbers (cut target s t) = cutKind ∷ target ∷ s ∷ t ∷ []
+
+-- The numbers of a list of instructions, one after the other.
+unfoldable pub numbersOf : List Instruction → List ℕ
+numbersOf [] = []
+numbersOf (i ∷ is) = numbers i ++ numbersOf is
+
+-- The instruction that four numbers stand for; fault 23 leaves no kind but the three.
+abbrev pub instruction : ℕ → ℕ → ℕ → ℕ → Instruction
+instruction kind target s t = cond (eqb kind loadKind) (load target s) (cond (eqb kind addKind) (add target s t) (cut target s t))
+
+-- Numbers as a list of instructions; fault 22 leaves no rest.
+unfoldable pub instructions : List ℕ → List Instruction
+instructions [] = []
+instructions (a ∷ []) = []
+instructions (a ∷ b ∷ []) = []
+instructions (a ∷ b ∷ c ∷ []) = []
+instructions (a ∷ b ∷ c ∷ d ∷ rest) = instruction a b c d ∷ instructions rest
+
+-- An instruction within the limits: registers 0 to 12, groups 1 to 9999.
+abbrev pub WellFormed : Instruction → Type 0
+WellFormed (load target group) = (target < registerCount) × (1 ≤ group) × (group ≤ lastGroup)
+WellFormed (add target s t) = (target < registerCount) × (s < registerCount) × (t < registerCount)
+WellFormed (cut target s t) = (target < registerCount) × (s < registerCount) × (t < registerCount)
+
+-- .. and a list of them.
+unfoldable pub AllWellFormed : List Instruction → Type 0
+AllWellFormed [] = Unit {0}
+AllWellFormed (i ∷ is) = WellFormed i × AllWellFormed is

@@ -1,0 +1,7 @@
+pub mod Limits
+pub mod Instructions
+pub mod Patches
+pub mod Bytes
+pub mod Playing
+pub mod Laws
+pub mod Words

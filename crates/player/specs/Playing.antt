@@ -1,0 +1,74 @@
+-- The faults, and what a call of `play` answers and leaves. 01, "The player".
+use mathlib.Core.Path.{_≡_}
+use mathlib.Core.Bool.{Bool, false, not, cond, _||_}
+use mathlib.Core.List.{List, [], _∷_, _++_}
+use Prim.Native.Nat.{ℕ, _*_, _%_}
+use lib.Dec.{eqb, leb, ltb}
+use lib.ListN.{length, drop}
+use Rattle.player.specs.Limits.{registerCount, lastGroup, lastLamp, byteCount, mostInstructions, mostPairs, outside}
+use Rattle.player.specs.Instructions.{answer, loadKind, addKind, cutKind, instructions}
+use Rattle.player.specs.Patches.{rig}
+use Rattle.player.specs.Bytes.{bytes}
+use Rattle.player.specs.declared.Played.{Played}
+use Rattle.player.specs.declared.Played.the-variants.{Done, Refused}
+
+-- 22: "code of 0 or over 8,191 instructions, or of a length that four doesn't divide"
+abbrev pub wrongLength : ℕ → Bool
+wrongLength n = eqb n 0 || (ltb (4 * mostInstructions) n || not (eqb (n % 4) 0))
+
+-- 23: "a kind, register or group out of range, or LOAD's last number not 0"
+abbrev pub wrongInstruction : ℕ → ℕ → ℕ → ℕ → Bool
+wrongInstruction kind target s t =
+    leb registerCount target
+    || cond (eqb kind loadKind)
+    (outside 1 lastGroup s || not (eqb t 0))
+    (outside addKind cutKind kind || (leb registerCount s || leb registerCount t))
+
+unfoldable pub wrongCode : List ℕ → Bool
+wrongCode [] = false
+wrongCode (a ∷ []) = false
+wrongCode (a ∷ b ∷ []) = false
+wrongCode (a ∷ b ∷ c ∷ []) = false
+wrongCode (a ∷ b ∷ c ∷ d ∷ rest) = wrongInstruction a b c d || wrongCode rest
+
+-- 24: "a patch of odd length or over 4,096 pairs"
+abbrev pub wrongPairCount : ℕ → Bool
+wrongPairCount n = not (eqb (n % 2) 0) || ltb (2 * mostPairs) n
+
+-- 25: "a pair out of range"
+abbrev pub wrongPair : ℕ → ℕ → Bool
+wrongPair group lamp = outside 1 lastGroup group || outside 1 lastLamp lamp
+
+unfoldable pub wrongPatch : List ℕ → Bool
+wrongPatch [] = false
+wrongPatch (g ∷ []) = false
+wrongPatch (g ∷ n ∷ rest) = wrongPair g n || wrongPatch rest
+
+-- "the first fault listed is the one given"; 0 where there is none
+abbrev pub fault : (code patch lamps : List ℕ) → ℕ
+fault code patch lamps =
+    cond (ltb (length lamps) byteCount) 21
+    (cond (wrongLength (length code)) 22
+    (cond (wrongCode code) 23
+    (cond (wrongPairCount (length patch)) 24
+    (cond (wrongPatch patch) 25 0))))
+
+-- 01's number for each answer: 0 for done, the fault's for refused.
+abbrev pub number : Played → ℕ
+number Done = 0
+number (Refused n) = n
+
+-- The answer that the faults call for.
+abbrev pub reply : (code patch lamps : List ℕ) → Played
+reply code patch lamps = cond (eqb (fault code patch lamps) 0) Done (Refused (fault code patch lamps))
+
+-- The bytes afterwards: done, the first 64 say the answer and the others are as they were; refused, "bytes unchanged".
+abbrev pub bytesAfter : (code patch lamps : List ℕ) → List ℕ
+bytesAfter code patch lamps =
+    cond (eqb (fault code patch lamps) 0) (bytes (answer (rig patch) (instructions code)) ++ drop byteCount lamps) lamps
+
+-- What a call answers, and what the bytes are afterwards.
+pub record Plays (code patch lamps : List ℕ) (r : Played) (after : List ℕ) : Type 0 where
+  pub numbered : number r ≡ fault code patch lamps
+  pub answered : r ≡ reply code patch lamps
+  pub written : after ≡ bytesAfter code patch lamps

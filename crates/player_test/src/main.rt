@@ -1,0 +1,168 @@
+// Plays the cases that 01 names in "The player". Before each, every byte holds 165. A line has the case, the number answered,
+// how many bytes still hold 165, and each other byte that is not 0, as position=value in hexadecimal.
+use player::Played;
+
+const BEFORE: u8 = 165;
+
+// 01's number of an answer.
+fn number(answer: Played) -> u64 {
+    match answer {
+        Played::Done => 0,
+        Played::Refused(n) => n as u64,
+    }
+}
+
+// How many bytes are as before.
+fn unchanged(lamps: &[u8]) -> u64 {
+    let mut n = 0u64;
+    let mut i = 0;
+    while i < lamps.len() {
+        if lamps[i] == BEFORE {
+            n += 1;
+        }
+        i += 1;
+    }
+    n
+}
+
+// Prints a byte that has lamps lit.
+fn print_byte(position: usize, value: u8) {
+    if (value != 0) & (value != BEFORE) {
+        io::write_all(1, b" ");
+        io::print_decimal(1, position as u64);
+        io::write_all(1, b"=");
+        io::print_hex(1, value as u64, 2);
+    }
+}
+
+fn print_bytes(lamps: &[u8]) {
+    let mut i = 0;
+    while i < lamps.len() {
+        print_byte(i, lamps[i]);
+        i += 1;
+    }
+}
+
+// Plays one case and prints its line.
+fn show(label: &[u8], code: &[u16], patch: &[u16], lamps: &mut [u8]) {
+    let answer = player::play(code, patch, lamps);
+    io::write_all(1, label);
+    io::write_all(1, b": ");
+    io::print_decimal(1, number(answer));
+    io::write_all(1, b", unchanged ");
+    io::print_decimal(1, unchanged(lamps));
+    print_bytes(lamps);
+    io::write_all(1, b"\n");
+}
+
+// A case on 66 bytes.
+fn case(label: &[u8], code: &[u16], patch: &[u16]) {
+    show(label, code, patch, &mut [BEFORE; 66]);
+}
+
+// One instruction, with lamp 1 in group 7.
+fn instruction(label: &[u8], kind: u16, target: u16, s: u16, t: u16) {
+    case(label, &[kind, target, s, t], &[7, 1]);
+}
+
+// One pair, after lamp 1 in group 7, which is loaded.
+fn pair(label: &[u8], group: u16, lamp: u16) {
+    case(label, &[1, 0, 7, 0], &[7, 1, group, lamp]);
+}
+
+// Faults 21 and 22. The numbers 2 2 2 2 are ADD 2 2 2.
+fn lengths() {
+    show(b"63 bytes", &[1, 0, 7, 0], &[7, 1], &mut [BEFORE; 63]);
+    show(b"64 bytes", &[1, 0, 7, 0], &[7, 1], &mut [BEFORE; 64]);
+    case(b"0 instructions", &[], &[7, 1]);
+    case(
+        b"a length that four does not divide",
+        &[1, 0, 7, 0, 1],
+        &[7, 1],
+    );
+    case(b"8191 instructions", &[2; 32764], &[7, 1]);
+    case(b"8192 instructions", &[2; 32768], &[7, 1]);
+}
+
+// Fault 23.
+fn instructions() {
+    instruction(b"kind 0", 0, 0, 1, 2);
+    instruction(b"kind 4", 4, 0, 1, 2);
+    instruction(b"target 13", 1, 13, 7, 0);
+    instruction(b"first operand 13", 2, 0, 13, 0);
+    instruction(b"second operand 13", 3, 0, 0, 13);
+    instruction(b"registers 12", 3, 12, 12, 12);
+    instruction(b"group 0", 1, 0, 0, 0);
+    instruction(b"group 9999", 1, 0, 9999, 0);
+    instruction(b"group 10000", 1, 0, 10000, 0);
+    instruction(b"LOAD with a last number not 0", 1, 0, 7, 1);
+    case(
+        b"a fault in the second instruction",
+        &[1, 0, 7, 0, 4, 0, 0, 0],
+        &[7, 1],
+    );
+}
+
+// Faults 24 and 25.
+fn patches() {
+    case(b"a patch of odd length", &[1, 0, 7, 0], &[7, 1, 7]);
+    case(b"4096 pairs", &[1, 0, 1, 0], &[1; 8192]);
+    case(b"4097 pairs", &[1, 0, 1, 0], &[1; 8194]);
+    pair(b"a pair of group 0", 0, 1);
+    pair(b"a pair of group 9999", 9999, 1);
+    pair(b"a pair of group 10000", 10000, 1);
+    pair(b"a pair of lamp 0", 7, 0);
+    pair(b"a pair of lamp 512", 7, 512);
+    pair(b"a pair of lamp 513", 7, 513);
+}
+
+// Two faults at once: the first listed is the one given.
+fn faults() {
+    show(b"21 and 22", &[], &[7, 1], &mut [BEFORE; 63]);
+    case(b"22 and 23", &[4, 0, 0, 0, 1], &[7, 1]);
+    case(b"22 and 24", &[], &[7]);
+    case(b"23 and 24", &[4, 0, 0, 0], &[7]);
+    case(b"23 and 25", &[4, 0, 0, 0], &[7, 513]);
+    case(b"24 and 25", &[1, 0, 7, 0], &[7, 513, 7]);
+}
+
+// Lamps that are lit.
+fn lit() {
+    case(
+        b"lamps 1 8 9 64 65 512",
+        &[1, 0, 7, 0],
+        &[7, 1, 7, 8, 7, 9, 7, 64, 7, 65, 7, 512],
+    );
+    case(b"a pair given twice", &[1, 0, 7, 0], &[7, 3, 7, 3]);
+    case(b"a group without a pair", &[1, 0, 8, 0], &[7, 3]);
+    case(b"an empty patch", &[1, 0, 7, 0], &[]);
+    case(
+        b"ADD of 1 2 and 2 3",
+        &[1, 0, 7, 0, 1, 1, 8, 0, 2, 0, 0, 1],
+        &[7, 1, 7, 2, 8, 2, 8, 3],
+    );
+    case(
+        b"CUT of 1 2 and 2 3",
+        &[1, 0, 7, 0, 1, 1, 8, 0, 3, 0, 0, 1],
+        &[7, 1, 7, 2, 8, 2, 8, 3],
+    );
+    case(
+        b"CUT of 2 3 and 1 2",
+        &[1, 0, 7, 0, 1, 1, 8, 0, 3, 0, 1, 0],
+        &[7, 1, 7, 2, 8, 2, 8, 3],
+    );
+    case(b"an answer only in register 1", &[1, 1, 7, 0], &[7, 1]);
+    case(
+        b"through register 12",
+        &[1, 12, 7, 0, 2, 0, 12, 3],
+        &[7, 100],
+    );
+}
+
+fn main() {
+    lengths();
+    instructions();
+    patches();
+    faults();
+    lit();
+}

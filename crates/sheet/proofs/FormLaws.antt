@@ -1,0 +1,212 @@
+-- The form of a line, by where its tabs stand, and the ranges of its numbers.
+use mathlib.Core.Path.{_≡_, refl, sym, ap, _∙_}
+use mathlib.Core.Bool.{Bool, true, false, cond, _&&_, false≢true}
+use mathlib.Core.List.{List, [], _∷_}
+use mathlib.Core.Option.{Option, some, none}
+use Prim.Native.Nat.{ℕ, zero, suc, _+_, _≤_, _<_, min}
+use native.Mathlib.Nat.{not-suc-le-zero, le-of-lt}
+use native.Mathlib.Omega.{arith}
+use borrow.Author.Tests.{eq-eqb, ne-eqb, lt-leb, leb-true, eqb-true, ltb-true, ltb-false}
+use lib.Dec.{eqb, leb, ltb}
+use lib.ListN.{length, getD, take, drop}
+use lib.Seq.{length-take-le}
+use Rattle.tree.specs.Tree.{Operator as TreeOperator, union, difference, sign, isGroup, mostGroup, isIn}
+use Rattle.text.specs.Decimal.{decimal, noNumber, capped, digits}
+use Rattle.text.specs.Parts.{Parts, last, part, split, join, ahead}
+use Rattle.text.specs.Line.{tab}
+use Rattle.text.proofs.DecimalLaws.{digits-decimal, digits-free}
+use Rattle.text.proofs.PartsLaws.{split-last, split-all, split-first, join-split}
+use Rattle.sheet.specs.Form.{letterG, letterK, letterL, letterU, letterD, letterE, mostPosition, isPosition, leastLevels, mostLevels, isLevels, letterOf, ranged, bare, oneNumber, twoNumbers, formOf, lineOf}
+use Rattle.sheet.specs.Accepted.{LiftRange}
+use Rattle.sheet.specs.Holding.{InRange}
+use Rattle.sheet.specs.declared.Line.{Line}
+use Rattle.sheet.specs.declared.Line.the-variants.{Group, Operator, Lift, Mark, End, Bad}
+
+-- ---- a number in code: tests that refuse 65,535 and above do not see the cap
+and-second : (a b : Bool) → b ≡ false → (a && b) ≡ false
+and-second true b e = e
+and-second false b e = refl
+
+pub group-cap : (n : ℕ) → noNumber ≤ n → isGroup n ≡ false
+group-cap n h = and-second (leb 1 n) (leb n mostGroup) (lt-leb n mostGroup (omega arith))
+
+pub position-cap : (n : ℕ) → noNumber ≤ n → isPosition n ≡ false
+position-cap n h = lt-leb n mostPosition (omega arith)
+
+pub levels-cap : (n : ℕ) → noNumber ≤ n → isLevels n ≡ false
+levels-cap n h = and-second (leb leastLevels n) (leb n mostLevels) (lt-leb n mostLevels (omega arith))
+
+pub ranged-capped : (passes : ℕ → Bool) (form : ℕ → Line) (o : Option ℕ) (n : ℕ) → n ≡ capped o → ((k : ℕ) → noNumber ≤ k → passes k ≡ false)
+    → cond (passes n) (form n) Bad ≡ ranged passes form o
+ranged-capped passes form none n e f = rw (e, f noNumber (omega arith))
+ranged-capped passes form (some m) n e f = go (ltb m noNumber) refl
+  where
+    go : (b : Bool) → ltb m noNumber ≡ b → cond (passes n) (form n) Bad ≡ cond (passes m) (form m) Bad
+    go true q = let z : n ≡ m = omega (arith, ltb-true m noNumber q) in rw z
+    go false q =
+        let h = ltb-false m noNumber q in
+        let z : n ≡ noNumber = omega arith in
+        rw (z, f noNumber (omega arith), f m h)
+
+-- ---- a line whose kind is not one letter
+letter-none : (f : List ℕ) → (length f ≡ 1 → ⊥) → letterOf f ≡ 0
+letter-none [] h = refl
+letter-none (b ∷ []) h = absurd (h refl)
+letter-none (b ∷ (c ∷ f)) h = refl
+
+form-none : (kind : List ℕ) (ps : Parts) → letterOf kind ≡ 0 → formOf (part kind ps) ≡ Bad
+unfolding formOf
+form-none kind (last f) e = rw e
+form-none kind (part f (last g)) e = rw e
+form-none kind (part f (part g ps)) e = refl
+
+pub line-none : (l : List ℕ) → ahead tab l ≤ length l → (ahead tab l ≡ 1 → ⊥) → lineOf l ≡ Bad
+unfolding lineOf formOf
+line-none l m h = go (ltb (ahead tab l) (length l)) refl
+  where
+    go : (b : Bool) → ltb (ahead tab l) (length l) ≡ b → formOf (split tab l) ≡ Bad
+    go true q =
+        let k = ltb-true (ahead tab l) (length l) q in
+        rw (split-first tab l k) (form-none (take (ahead tab l) l) (split tab (drop (ahead tab l + 1) l)) (letter-none (take (ahead tab l) l) (λ e. h (sym (length-take-le (ahead tab l) l m) ∙ e))))
+    go false q =
+        let e : ahead tab l ≡ length l = omega (arith, ltb-false (ahead tab l) (length l) q) in
+        rw (split-all tab l e, letter-none l (λ z. h (e ∙ z)))
+
+-- ---- a kind alone, and a kind with fields
+front : (l : List ℕ) → 0 < length l → take 1 l ≡ getD l 0 0 ∷ []
+front [] h = absurd (not-suc-le-zero h)
+front (b ∷ l) h = refl
+
+whole : (l : List ℕ) → length l ≡ 1 → l ≡ getD l 0 0 ∷ []
+whole [] e = absurd (omega arith)
+whole (b ∷ []) e = refl
+whole (b ∷ (c ∷ l)) e = absurd (omega arith)
+
+pub line-bare : (l : List ℕ) → ahead tab l ≡ 1 → length l ≡ 1 → lineOf l ≡ bare (getD l 0 0)
+unfolding lineOf formOf
+line-bare l h e = rw (split-all tab l (h ∙ sym e)) (ap (λ (f : List ℕ). bare (letterOf f)) (whole l e))
+
+pub line-fields : (l : List ℕ) → ahead tab l ≡ 1 → 1 < length l → lineOf l ≡ formOf (part (getD l 0 0 ∷ []) (split tab (drop 2 l)))
+unfolding lineOf
+line-fields l h k =
+    rw (split-first tab l (omega (arith, h)), h, front l (omega arith))
+
+pub fields-one : (kind : ℕ) (f : List ℕ) → ahead tab f ≡ length f → formOf (part (kind ∷ []) (split tab f)) ≡ oneNumber kind (decimal f)
+unfolding formOf
+fields-one kind f e = rw (split-all tab f e)
+
+-- a field with a tab in it is no number
+decimal-free : (f : List ℕ) (n : ℕ) → decimal f ≡ some n → split tab f ≡ last f
+decimal-free f n e = split-last tab f (ap (λ (l : List ℕ). isIn l tab) (digits-decimal f n e) ∙ digits-free n tab refl)
+
+decimal-parted : (f g : List ℕ) (ps : Parts) → split tab f ≡ part g ps → decimal f ≡ none
+decimal-parted f g ps e = go (decimal f) refl
+  where
+    go : (o : Option ℕ) → decimal f ≡ o → decimal f ≡ none
+    go none q = q
+    go (some n) q = absurd (let s = decimal-free f n q in let z : _≡_ {A = ℕ} 0 1 = cc in omega arith)
+
+join-last : (g : List ℕ) → join tab (last g) ≡ g
+unfolding join
+join-last g = refl
+
+form-two : (kind : ℕ) (f g : List ℕ) → formOf (part (kind ∷ []) (part f (last g))) ≡ twoNumbers kind (decimal f) (decimal g)
+unfolding formOf
+form-two kind f g = refl
+
+form-three : (kind : ℕ) (f g : List ℕ) (ps : Parts) → formOf (part (kind ∷ []) (part f (part g ps))) ≡ Bad
+unfolding formOf
+form-three kind f g ps = refl
+
+two-none : (kind : ℕ) (o : Option ℕ) → twoNumbers kind o none ≡ Bad
+two-none kind o = go (eqb kind letterL) o
+  where
+    pass : (b : Bool) → cond b Bad Bad ≡ Bad
+    pass true = refl
+    pass false = refl
+
+    go : (b : Bool) (o : Option ℕ) → cond b (ranged isPosition (λ p. Bad) o) Bad ≡ Bad
+    go true none = refl
+    go true (some p) = pass (isPosition p)
+    go false o = refl
+
+pub fields-two : (kind : ℕ) (f : List ℕ) (t : ℕ) → t ≡ ahead tab f → t < length f
+    → formOf (part (kind ∷ []) (split tab f)) ≡ twoNumbers kind (decimal (take t f)) (decimal (drop (t + 1) f))
+fields-two kind f t q h = rw (split-first tab f (rw q at h), ← q) (go (split tab (drop (t + 1) f)) refl)
+  where
+    a : List ℕ
+    a = take t f
+
+    b : List ℕ
+    b = drop (t + 1) f
+
+    same : (g : List ℕ) → split tab b ≡ last g → g ≡ b
+    same g e = sym (join-last g) ∙ sym (ap (join tab) e) ∙ join-split tab b
+
+    go : (ps : Parts) → split tab b ≡ ps → formOf (part (kind ∷ []) (part a ps)) ≡ twoNumbers kind (decimal a) (decimal b)
+    go (last g) e = form-two kind a g ∙ ap (λ (x : List ℕ). twoNumbers kind (decimal a) (decimal x)) (same g e)
+    go (part g ps) e = form-three kind a g ps ∙ sym (ap (twoNumbers kind (decimal a)) (decimal-parted b g ps e) ∙ two-none kind (decimal a))
+
+-- ---- the forms as the code tests them
+pub one-group : (kind n : ℕ) (o : Option ℕ) → n ≡ capped o → kind ≡ letterG → cond (isGroup n) (Group n) Bad ≡ oneNumber kind o
+one-group kind n o e q = rw (eq-eqb kind letterG q) (ranged-capped isGroup Group o n e group-cap)
+
+pub one-mark : (kind n : ℕ) (o : Option ℕ) → n ≡ capped o → (kind ≡ letterG → ⊥) → kind ≡ letterK → cond (isGroup n) (Mark n) Bad ≡ oneNumber kind o
+one-mark kind n o e h q = rw (ne-eqb kind letterG h, eq-eqb kind letterK q) (ranged-capped isGroup Mark o n e group-cap)
+
+pub one-other : (kind : ℕ) (o : Option ℕ) → (kind ≡ letterG → ⊥) → (kind ≡ letterK → ⊥) → Bad ≡ oneNumber kind o
+one-other kind o g k = rw (ne-eqb kind letterG g, ne-eqb kind letterK k)
+
+pub two-lift : (kind p n : ℕ) (o u : Option ℕ) → p ≡ capped o → n ≡ capped u → kind ≡ letterL
+    → cond (isPosition p) (cond (isLevels n) (Lift p n) Bad) Bad ≡ twoNumbers kind o u
+two-lift kind p n o u e f q =
+    rw (eq-eqb kind letterL q)
+    (ap (λ (l : Line). cond (isPosition p) l Bad) (ranged-capped isLevels (λ n. Lift p n) u n f levels-cap)
+    ∙ ranged-capped isPosition (λ p. ranged isLevels (λ n. Lift p n) u) o p e position-cap)
+
+pub two-other : (kind : ℕ) (o u : Option ℕ) → (kind ≡ letterL → ⊥) → Bad ≡ twoNumbers kind o u
+two-other kind o u h = rw (ne-eqb kind letterL h)
+
+-- ---- the numbers of every line are in their ranges
+either : (b : Bool) (x y : Line) → (b ≡ true → InRange x) → InRange y → InRange (cond b x y)
+either true x y p q = p refl
+either false x y p q = q
+
+and-both : (a b : Bool) → (a && b) ≡ true → (a ≡ true) × (b ≡ true)
+and-both true b e = (refl, e)
+and-both false b e = absurd (false≢true e)
+
+bare-range : (kind : ℕ) → InRange (bare kind)
+bare-range kind =
+    either (eqb kind letterU) _ _ (λ e. (union, refl)) (either (eqb kind letterD) _ _ (λ e. (difference, refl)) (either (eqb kind letterE) End Bad (λ e. tt) tt))
+
+group-range : (o : Option ℕ) → InRange (ranged isGroup Group o)
+group-range none = tt
+group-range (some n) = either (isGroup n) (Group n) Bad (λ e. e) tt
+
+mark-range : (o : Option ℕ) → InRange (ranged isGroup Mark o)
+mark-range none = tt
+mark-range (some n) = either (isGroup n) (Mark n) Bad (λ e. e) tt
+
+levels-range : (p : ℕ) → p ≤ mostPosition → (o : Option ℕ) → InRange (ranged isLevels (λ n. Lift p n) o)
+levels-range p h none = tt
+levels-range p h (some n) =
+    either (isLevels n) (Lift p n) Bad
+    (λ e. let z = and-both (leb leastLevels n) (leb n mostLevels) e in record { position-most = h; levels-least = leb-true leastLevels n (z .0); levels-most = leb-true n mostLevels (z .1) })
+    tt
+
+lift-range : (o u : Option ℕ) → InRange (ranged isPosition (λ p. ranged isLevels (λ n. Lift p n) u) o)
+lift-range none u = tt
+lift-range (some p) u = either (isPosition p) (ranged isLevels (λ n. Lift p n) u) Bad (λ e. levels-range p (leb-true p mostPosition e) u) tt
+
+form-range : (ps : Parts) → InRange (formOf ps)
+unfolding formOf
+form-range (last kind) = bare-range (letterOf kind)
+form-range (part kind (last f)) =
+    either (eqb (letterOf kind) letterG) _ _ (λ e. group-range (decimal f)) (either (eqb (letterOf kind) letterK) _ _ (λ e. mark-range (decimal f)) tt)
+form-range (part kind (part f (last g))) = either (eqb (letterOf kind) letterL) _ _ (λ e. lift-range (decimal f) (decimal g)) tt
+form-range (part kind (part f (part g fs))) = tt
+
+pub line-range : (l : List ℕ) → InRange (lineOf l)
+unfolding lineOf
+line-range l = form-range (split tab l)

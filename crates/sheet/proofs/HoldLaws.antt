@@ -1,0 +1,249 @@
+-- The code's numbers and arrays follow the state: a line's fault in the code's numbers, and what each kind of line leaves.
+use mathlib.Core.Path.{_≡_, refl, sym, ap, _∙_}
+use mathlib.Core.Bool.{Bool, true, false, not, cond, _&&_}
+use mathlib.Core.List.{List, [], _∷_, _++_}
+use Prim.Native.Nat.{ℕ, suc, _+_, _-_, _≤_, _<_}
+use native.Mathlib.Omega.{arith}
+use borrow.Author.Tests.{eq-eqb, ne-eqb, le-ltb}
+use lib.Dec.{eqb, leb, ltb}
+use lib.ListN.{length, replicate, set, take, drop, length-append, length-replicate}
+use lib.Seq.{take-at}
+use Rattle.tree.specs.Tree.{isGroup, isIn, withNew}
+use Rattle.tree.specs.Pass.{pass}
+use Rattle.tree.specs.Writing.{over, Wrote}
+use Rattle.tree.proofs.WritingLaws.{wrote-nothing, wrote-one, wrote-then, wrote-as, wrote-over}
+use Rattle.sheet.specs.Reading.{mostGroups, mostBytes, State, place, trees, first, orderFault, kindFault, faultOf, entered, next, blank, Outcome, accepted, refused, LiftLine}
+use Rattle.sheet.specs.Holding.{InRange, Sound, Holds, Stepped, Gives}
+use Rattle.sheet.specs.declared.Line.{Line}
+use Rattle.sheet.specs.declared.Line.the-variants.{Group, Operator, Lift, Mark, End, Bad}
+use Rattle.sheet.specs.declared.Progress.{Progress}
+use Rattle.sheet.proofs.DistinctLaws.{distinct-fits}
+use Rattle.sheet.proofs.TreeMoreLaws.{more-group, more-operator}
+use Rattle.sheet.proofs.SoundLaws.{first-none, first-some, first-second, sound-next, sound-mark, sound-lift, sound-end, sound-blank}
+
+-- what was written at the front of zeros
+wrote-take : {out out′ : List ℕ} {n : ℕ} {xs : List ℕ} → Wrote out 0 out′ n xs → length xs ≤ length out → take n out′ ≡ xs
+wrote-take {out} {out′} {n} {xs} w h = let z : length xs ≡ n = omega (arith, w .ends) in rw (wrote-over w h) (take-at xs (drop (length xs) out) n z)
+
+-- ---- the first of two faults, where the code has the first as f
+pub order-first : (f F rest : ℕ) → f ≡ F → (f ≡ 0 → ⊥) → first F rest ≡ f
+order-first f F rest e n = rw (← e) (first-some f rest n)
+
+pub order-second : (f F rest : ℕ) → f ≡ F → f ≡ 0 → first F rest ≡ rest
+order-second f F rest e z = first-second F rest (sym e ∙ z)
+
+pub marks-few : {most : ℕ} {st : State} → Sound most st → length (st .marks) ≤ mostGroups
+marks-few {st = st} S = omega (arith, distinct-fits (st .marks) (st .groups) (S .once) (S .marked), S .different)
+
+module _ {most : ℕ} {st : State} {p : Progress} {tree groups marks : List ℕ} (h : Holds most st p tree groups marks) where
+  pub nodes-is : p .nodes ≡ length (st .entries)
+  nodes-is = omega (arith, h .entries .ends)
+
+  pub different-is : p .different ≡ length (st .groups)
+  different-is = omega (arith, h .known .ends)
+
+  pub marked-is : p .marked ≡ length (st .marks)
+  marked-is = omega (arith, h .marked .ends)
+
+  pub tree-long : length tree ≡ most
+  tree-long = h .entries .same ∙ length-replicate most 0
+
+  pub groups-long : length groups ≡ mostGroups
+  groups-long = h .known .same
+
+  pub marks-long : length marks ≡ mostGroups
+  marks-long = h .marked .same
+
+  pub different-few : p .different ≤ length groups
+  different-few = omega (arith, different-is, groups-long, h .sound .different)
+
+  pub marked-few : p .marked ≤ length marks
+  marked-few = omega (arith, marked-is, marks-long, marks-few (h .sound))
+
+  known-take : take (p .different) groups ≡ st .groups
+  known-take = wrote-take (h .known) (h .sound .different)
+
+  marked-take : take (p .marked) marks ≡ st .marks
+  marked-take = wrote-take (h .marked) (marks-few (h .sound))
+
+  -- ---- a line's fault, in the code's numbers
+  pub fault-group : (g : ℕ) → faultOf most st (Group g)
+      ≡ first (orderFault (p .phase) (p .waiting) 0) (cond (leb most (p .nodes)) 5 (cond (not (isIn (take (p .different) groups) g) && leb mostGroups (p .different)) 6 0))
+  unfolding faultOf
+  fault-group g = rw (h .phase, h .waits, nodes-is, known-take, different-is)
+
+  pub fault-operator : (x : ℕ) → faultOf most st (Operator x) ≡ first (orderFault (p .phase) (p .waiting) 0) (cond (ltb (p .waiting) 2) 4 (cond (leb most (p .nodes)) 5 0))
+  unfolding faultOf
+  fault-operator x = rw (h .phase, h .waits, nodes-is)
+
+  pub fault-lift : (q n : ℕ) → faultOf most st (Lift q n) ≡ first (orderFault (p .phase) (p .waiting) 1) 0
+  unfolding faultOf
+  fault-lift q n = rw (h .phase, h .waits)
+
+  pub fault-mark : (g : ℕ) → faultOf most st (Mark g)
+      ≡ first (orderFault (p .phase) (p .waiting) 2) (cond (isIn (take (p .different) groups) g) (cond (isIn (take (p .marked) marks) g) 9 0) 8)
+  unfolding faultOf
+  fault-mark g = rw (h .phase, h .waits, known-take, marked-take)
+
+  pub fault-end : faultOf most st End ≡ first (orderFault (p .phase) (p .waiting) 3) 0
+  unfolding faultOf
+  fault-end = rw (h .phase, h .waits)
+
+  pub fault-bad : faultOf most st Bad ≡ 2
+  unfolding faultOf
+  fault-bad = refl
+
+  -- ---- a line with a fault
+  pub stepped-faulty : (l : Line) (after : ℕ) (r : Progress) (f : ℕ) (es gs ms : List ℕ) → (r .fault ≡ f) × (r .line ≡ p .line + 1) → faultOf most st l ≡ f → (f ≡ 0 → ⊥)
+      → Stepped most st l after p r es gs ms
+  stepped-faulty l after r f es gs ms w e n = record { fault = w .0 ∙ sym e; counted = w .1; holds = λ z. absurd (n (sym e ∙ z)) }
+
+  -- ---- a line without fault
+  stepped-on : (l : Line) (after : ℕ) (r : Progress) (es gs ms : List ℕ) → r .fault ≡ p .fault → r .line ≡ p .line + 1 → faultOf most st l ≡ 0
+      → Holds most (next st l after) r es gs ms → Stepped most st l after p r es gs ms
+  stepped-on l after r es gs ms f c e k = record { fault = f ∙ h .fault ∙ sym e; counted = c; holds = λ z. k }
+
+  holds-entered : (x after w d : ℕ) (gs array : List ℕ) → Sound most (entered st x gs after) → w ≡ length (trees (st .entries ++ (x ∷ []))) → w ≤ p .nodes + 1
+      → Wrote (replicate mostGroups 0) 0 array d gs
+      → Holds most (entered st x gs after)
+      (record { fault = p .fault; line = p .line + 1; phase = p .phase; nodes = p .nodes + 1; waiting = w; different = d; marked = p .marked; start = after; lifts = p .lifts })
+      (set tree (p .nodes) x) array marks
+  holds-entered x after w d gs array S e m k = record {
+    sound = S;
+    fault = h .fault;
+    phase = h .phase;
+    waits = e;
+    within = m;
+    entries = wrote-then (h .entries) (wrote-one tree (p .nodes) x);
+    known = k;
+    marked = h .marked;
+    start = refl;
+    lifts = h .lifts;
+    few = omega (arith, h .few);
+  }
+
+  waits-group : (g : ℕ) → isGroup g ≡ true → p .waiting + 1 ≡ length (trees (st .entries ++ (g ∷ [])))
+  waits-group g r = omega (arith, h .waits, more-group (st .entries) g r (h .sound .forest) .count)
+
+  pub stepped-group-old : (g after : ℕ) → isGroup g ≡ true → faultOf most st (Group g) ≡ 0 → isIn (take (p .different) groups) g ≡ true
+      → Stepped most st (Group g) after p
+      (record { fault = p .fault; line = p .line + 1; phase = p .phase; nodes = p .nodes + 1; waiting = p .waiting + 1; different = p .different; marked = p .marked; start = after; lifts = p .lifts })
+      (set tree (p .nodes) g) groups marks
+  stepped-group-old g after r e i =
+      let q : isIn (st .groups) g ≡ true = rw known-take at i in
+      stepped-on (Group g) after _ _ _ _ refl refl e
+      (holds-entered g after (p .waiting + 1) (p .different) (withNew (st .groups) g) groups (sound-next most st (h .sound) (Group g) after r e) (waits-group g r)
+      (omega (arith, h .within)) (wrote-as (h .known) (rw q)))
+
+  pub stepped-group-new : (g after : ℕ) → isGroup g ≡ true → faultOf most st (Group g) ≡ 0 → isIn (take (p .different) groups) g ≡ false
+      → Stepped most st (Group g) after p
+      (record { fault = p .fault; line = p .line + 1; phase = p .phase; nodes = p .nodes + 1; waiting = p .waiting + 1; different = p .different + 1; marked = p .marked; start = after; lifts = p .lifts })
+      (set tree (p .nodes) g) (set groups (p .different) g) marks
+  stepped-group-new g after r e i =
+      let q : isIn (st .groups) g ≡ false = rw known-take at i in
+      stepped-on (Group g) after _ _ _ _ refl refl e
+      (holds-entered g after (p .waiting + 1) (p .different + 1) (withNew (st .groups) g) (set groups (p .different) g) (sound-next most st (h .sound) (Group g) after r e) (waits-group g r)
+      (omega (arith, h .within)) (wrote-as (wrote-then (h .known) (wrote-one groups (p .different) g)) (rw q)))
+
+  pub stepped-operator : (x after : ℕ) → InRange (Operator x) → faultOf most st (Operator x) ≡ 0 → 2 ≤ p .waiting
+      → Stepped most st (Operator x) after p
+      (record { fault = p .fault; line = p .line + 1; phase = p .phase; nodes = p .nodes + 1; waiting = p .waiting - 1; different = p .different; marked = p .marked; start = after; lifts = p .lifts })
+      (set tree (p .nodes) x) groups marks
+  stepped-operator x after r e two =
+      let w : p .waiting - 1 ≡ length (trees (st .entries ++ (x ∷ []))) = omega (arith, h .waits, more-operator (st .entries) x (r .0) (r .1) (omega (arith, h .waits)) (h .sound .forest) .count) in
+      stepped-on (Operator x) after _ _ _ _ refl refl e
+      (holds-entered x after (p .waiting - 1) (p .different) (st .groups) groups (sound-next most st (h .sound) (Operator x) after r e) w (omega (arith, h .within)) (h .known))
+
+  pub stepped-lift : (q n after : ℕ) → faultOf most st (Lift q n) ≡ 0
+      → Stepped most st (Lift q n) after p
+      (record { fault = p .fault; line = p .line + 1; phase = 1; nodes = p .nodes; waiting = p .waiting; different = p .different; marked = p .marked; start = p .start; lifts = p .lifts + 1 })
+      tree groups marks
+  unfolding faultOf
+  stepped-lift q n after e =
+      stepped-on (Lift q n) after _ _ _ _ refl refl e (record {
+        sound = sound-lift most st (h .sound) q n after (first-none _ _ e .0);
+        fault = h .fault;
+        phase = refl;
+        waits = h .waits;
+        within = h .within;
+        entries = h .entries;
+        known = h .known;
+        marked = h .marked;
+        start = h .start;
+        lifts = omega (arith, h .lifts, length-append (st .lifts) (record { position = q; levels = n } ∷ []));
+        few = omega (arith, h .few);
+      })
+
+  pub stepped-mark : (g after : ℕ) → faultOf most st (Mark g) ≡ 0
+      → Stepped most st (Mark g) after p
+      (record { fault = p .fault; line = p .line + 1; phase = 2; nodes = p .nodes; waiting = p .waiting; different = p .different; marked = p .marked + 1; start = p .start; lifts = p .lifts })
+      tree groups (set marks (p .marked) g)
+  unfolding faultOf
+  stepped-mark g after e =
+      let z = first-none _ _ e in
+      stepped-on (Mark g) after _ _ _ _ refl refl e (record {
+        sound = sound-mark most st (h .sound) g after (z .0) (z .1);
+        fault = h .fault;
+        phase = refl;
+        waits = h .waits;
+        within = h .within;
+        entries = h .entries;
+        known = h .known;
+        marked = wrote-then (h .marked) (wrote-one marks (p .marked) g);
+        start = h .start;
+        lifts = h .lifts;
+        few = omega (arith, h .few);
+      })
+
+  -- there is room for a mark without fault
+  pub mark-room : (g : ℕ) → faultOf most st (Mark g) ≡ 0 → p .marked < length marks
+  unfolding faultOf
+  mark-room g e =
+      let z = first-none _ _ e in
+      omega (arith, marks-few (sound-mark most st (h .sound) g 0 (z .0) (z .1)), length-append (st .marks) (g ∷ []), marked-is, marks-long)
+
+  pub stepped-end : (after : ℕ) → faultOf most st End ≡ 0
+      → Stepped most st End after p
+      (record { fault = p .fault; line = p .line + 1; phase = 4; nodes = p .nodes; waiting = p .waiting; different = p .different; marked = p .marked; start = p .start; lifts = p .lifts })
+      tree groups marks
+  unfolding faultOf
+  stepped-end after e =
+      stepped-on End after _ _ _ _ refl refl e (record {
+        sound = sound-end most st (h .sound) after (first-none _ _ e .0);
+        fault = h .fault;
+        phase = refl;
+        waits = h .waits;
+        within = h .within;
+        entries = h .entries;
+        known = h .known;
+        marked = h .marked;
+        start = h .start;
+        lifts = h .lifts;
+        few = omega (arith, h .few);
+      })
+
+  -- ---- at the end
+  pub holds-gives : Gives most (accepted st) p tree marks
+  holds-gives =
+      (h .fault, wrote-over (h .entries) (omega (arith, h .sound .nodes, length-replicate {A = ℕ} most 0)), wrote-over (h .marked) (marks-few (h .sound)), nodes-is, marked-is, h .start, h .lifts)
+
+-- ---- at the start
+no-trees : _≡_ {A = ℕ} 0 (length (trees []))
+unfolding trees pass
+no-trees = refl
+
+pub holds-blank : (most : ℕ) (tree marks : List ℕ) → tree ≡ replicate most 0 → marks ≡ replicate mostGroups 0
+    → Holds most blank (record { fault = 0; line = 0; phase = 0; nodes = 0; waiting = 0; different = 0; marked = 0; start = 0; lifts = 0 }) tree (replicate mostGroups 0) marks
+holds-blank most tree marks e f = record {
+  sound = sound-blank most;
+  fault = refl;
+  phase = refl;
+  waits = no-trees;
+  within = omega arith;
+  entries = rw e (wrote-nothing (replicate most 0) 0);
+  known = wrote-nothing (replicate mostGroups 0) 0;
+  marked = rw f (wrote-nothing (replicate mostGroups 0) 0);
+  start = refl;
+  lifts = refl;
+  few = omega arith;
+}

@@ -1,0 +1,10 @@
+-- The laws of the definitions in specs/, for this crate and those above it.
+mod Auto
+mod TreeMoreLaws
+pub mod DistinctLaws
+pub mod FormLaws
+pub mod LineAtLaws
+mod SoundLaws
+mod HoldLaws
+mod RunLaws
+pub mod AcceptedLaws

@@ -1,0 +1,85 @@
+-- The line at a byte, and one line more of reading.
+use mathlib.Core.Path.{_≡_, refl, sym, ap, _∙_}
+use mathlib.Core.Bool.{Bool, true, false, cond}
+use mathlib.Core.List.{List, [], _∷_}
+use Prim.Native.Nat.{ℕ, suc, _+_, _-_, _≤_, _<_}
+use native.Mathlib.Nat.{le-of-lt}
+use native.Mathlib.Omega.{arith}
+use borrow.Author.Tests.{ne-eqb, ltb-true, ltb-false}
+use lib.Dec.{eqb, ltb}
+use lib.ListN.{length, take, drop, drop-of-length-le, length-drop}
+use lib.Seq.{drop-drop, length-take-le}
+use Rattle.text.specs.Parts.{Parts, last, part, split, ahead}
+use Rattle.text.specs.Line.{lineFeed}
+use Rattle.text.proofs.PartsLaws.{split-all, split-first, ahead-most}
+use Rattle.sheet.specs.Form.{lineOf, firstLine, lineAt}
+use Rattle.sheet.specs.Reading.{State, ended, faultOf, next, Outcome, accepted, refused, run}
+use Rattle.sheet.specs.Holding.{InRange}
+use Rattle.sheet.specs.declared.Line.{Line}
+use Rattle.sheet.specs.declared.Line.the-variants.{Group, Operator, Lift, Mark, End, Bad}
+use Rattle.sheet.specs.declared.LineAt.{LineAt}
+use Rattle.sheet.proofs.FormLaws.{line-range}
+
+pub line-past : (s : List ℕ) (at : ℕ) → length s ≤ at → lineAt s at ≡ record { line = Bad; next = at }
+unfolding lineAt split
+line-past s at h = rw (drop-of-length-le s h) (ap (λ (n : ℕ). record { line = Bad; next = n }) (omega arith))
+
+-- k bytes stand ahead of the next LF
+module _ (s : List ℕ) (at k : ℕ) (e : k ≡ ahead lineFeed (drop at s)) where
+  pub line-cut : k ≡ length (drop at s) → lineAt s at ≡ record { line = Bad; next = at + k }
+  unfolding lineAt
+  line-cut h = rw (split-all lineFeed (drop at s) (sym e ∙ h), h)
+
+  pub line-whole : k < length (drop at s) → lineAt s at ≡ record { line = lineOf (take k (drop at s)); next = at + k + 1 }
+  unfolding lineAt
+  line-whole h = rw (split-first lineFeed (drop at s) (rw e at h), ← e, length-take-le k (drop at s) (le-of-lt h))
+
+first-range : (at : ℕ) (ps : Parts) → InRange (firstLine at ps .line)
+first-range at (last l) = tt
+first-range at (part l ls) = line-range l
+
+-- the numbers of the line at a byte are in their ranges
+pub line-at-range : (s : List ℕ) (at : ℕ) → InRange (lineAt s at .line)
+unfolding lineAt
+line-at-range s at = first-range at (split lineFeed (drop at s))
+
+-- one line more: it takes a byte at least, and reading goes on after it or stops with its fault
+pub record OneLine (most : ℕ) (s : List ℕ) (at : ℕ) (here : LineAt) : Type 0 where
+  pub more : at < here .next
+  pub within : here .next ≤ length s
+  pub goes : (st : State) (n : ℕ) → run most st n at (split lineFeed (drop at s))
+      ≡ cond (eqb (faultOf most st (here .line)) 0) (run most (next st (here .line) (here .next)) (n + 1) (here .next) (split lineFeed (drop (here .next) s)))
+      (refused (faultOf most st (here .line)) (n + 1))
+
+cut-line : (most : ℕ) (s : List ℕ) (at : ℕ) → at < length s → ahead lineFeed (drop at s) ≡ length (drop at s) → OneLine most s at (lineAt s at)
+unfolding run faultOf
+cut-line most s at h e =
+    rw (line-cut s at (ahead lineFeed (drop at s)) refl e) (record {
+      more = omega (arith, length-drop at s);
+      within = omega (arith, length-drop at s);
+      goes = λ st n. rw (split-all lineFeed (drop at s) e, ne-eqb (length (drop at s)) 0 (λ z. omega (arith, length-drop at s)));
+    })
+
+whole-line : (most : ℕ) (s : List ℕ) (at : ℕ) → at < length s → ahead lineFeed (drop at s) < length (drop at s) → OneLine most s at (lineAt s at)
+unfolding run
+whole-line most s at h k =
+    let a = ahead lineFeed (drop at s) in
+    let q : at + (a + 1) ≡ at + a + 1 = omega arith in
+    rw (line-whole s at a refl k) (record {
+      more = omega arith;
+      within = omega (arith, length-drop at s);
+      goes = λ st n. rw (split-first lineFeed (drop at s) k, length-take-le a (drop at s) (le-of-lt k), drop-drop, q);
+    })
+
+pub one-line : (most : ℕ) (s : List ℕ) (at : ℕ) → at < length s → OneLine most s at (lineAt s at)
+one-line most s at h = go (ltb (ahead lineFeed (drop at s)) (length (drop at s))) refl
+  where
+    go : (b : Bool) → ltb (ahead lineFeed (drop at s)) (length (drop at s)) ≡ b → OneLine most s at (lineAt s at)
+    go true q = whole-line most s at h (ltb-true (ahead lineFeed (drop at s)) (length (drop at s)) q)
+    go false q = cut-line most s at h (omega (arith, ltb-false (ahead lineFeed (drop at s)) (length (drop at s)) q, ahead-most lineFeed (drop at s)))
+
+-- lines used up
+pub run-end : (most : ℕ) (st : State) (n at : ℕ) (s : List ℕ) → length s ≤ at
+    → run most st n at (split lineFeed (drop at s)) ≡ cond (eqb (st .phase) ended) (accepted st) (refused 10 (n + 1))
+unfolding run split
+run-end most st n at s h = rw (drop-of-length-le s h)

@@ -1,0 +1,36 @@
+-- `read`: the outcome as an answer.
+use mathlib.Core.Path.{_∙_}
+use Rattle.sheet.specs.Reading.{mostSheetNodes, reading}
+use Rattle.sheet.proofs.RunLaws.{gives-refused, gives-accepted}
+use borrow.Author.Needs.{needs}
+use Rattle.sheet.proofs.read.Statement.{statement}
+use Rattle.sheet.proofs.read.Tie as tie
+
+slice-aggregate-read-lines : tie.Need-slice-aggregate-read-lines
+slice-aggregate-read-lines c = search needs
+
+slice-aggregate-read-lines-2 : tie.Need-slice-aggregate-read-lines-2
+slice-aggregate-read-lines-2 c = search needs
+
+read-lines-requires : tie.Need-read-lines-requires
+read-lines-requires c κs = search needs
+
+refusal-requires : tie.Need-refusal-requires
+refusal-requires c κs = search needs
+
+returns : tie.Need-returns
+returns c = c .refusal .ensures ∙ gives-refused mostSheetNodes (reading (c .before .before .before .before .before .before .before .before .before .args .sheet .now)) (c .before .before .before .before .before .read-lines .result) _ _ (c .before .before .before .before .before .read-lines .ensures) (c .before .if1 .taken)
+
+returns-2 : tie.Need-returns-2
+returns-2 c = gives-accepted (reading (c .before .before .before .before .before .before .before .before .args .sheet .now)) (c .before .before .before .before .read-lines .result) _ _ (c .before .before .before .before .read-lines .ensures) (c .if1 .left)
+
+pub read-spec : {M : Type 1} → statement M
+read-spec =
+    tie.close
+    (tie.spec
+    slice-aggregate-read-lines
+    slice-aggregate-read-lines-2
+    read-lines-requires
+    refusal-requires
+    returns
+    returns-2)

@@ -1,0 +1,117 @@
+-- `read_lines`: what is left of the lines, read from the present state, gives the whole sheet's outcome.
+use mathlib.Core.Path.{_≡_, refl, sym, ap, _∙_}
+use Prim.Native.Nat.{_≤_, _-_}
+use native.Mathlib.Omega.{arith}
+use lib.ListN.{length}
+use Rattle.sheet.specs.Reading.{mostBytes, refused}
+use Rattle.sheet.specs.Form.{lineAt}
+use Rattle.sheet.specs.Holding.{Stepped}
+use Rattle.sheet.proofs.LineAtLaws.{line-at-range, OneLine, one-line}
+use Rattle.sheet.proofs.HoldLaws.{tree-long, marks-long, groups-long, holds-gives}
+use Rattle.sheet.proofs.RunLaws.{Running, running-blank, read-long, held-own, stepped-own, running-refused, running-next, running-accepted, running-open}
+use Rattle.sheet.proofs.read_lines.Statement.{statement}
+use Rattle.sheet.proofs.read_lines.Tie as tie
+
+abbrev Inv-loop : tie.InvT-loop
+Inv-loop sheet tree₀ marks₀ p₀ groups₀ at₀ tree marks p groups at = (length sheet ≤ mostBytes) × (at ≤ length sheet) × (p .line ≤ at) × Running (length tree₀) sheet p tree groups marks at
+
+abbrev μ-loop : tie.MeasureT-loop
+μ-loop sheet tree₀ marks₀ p₀ groups₀ at₀ tree marks p groups at = length sheet - at
+
+-- after a line's step: the line at the byte, and what the step did
+one-read : (c : tie.After-step Inv-loop μ-loop) → OneLine 0 (c .before .before .before .before .before .before .before .before .before .before .before .args .sheet .now) (c .before .before .before .before .before .before .loop .at) (c .before .before .before .before .line-at .result)
+one-read c = rw (← c .before .before .before .before .line-at .ensures) at (one-line 0 (c .before .before .before .before .before .before .before .before .before .before .before .args .sheet .now) (c .before .before .before .before .before .before .loop .at) (c .before .before .before .before .before .loop-test .taken))
+
+stepped : (c : tie.After-step Inv-loop μ-loop)
+    → let s = c .before .before .before .before .before .before .before .before .before .before .before .args .sheet .now in let at = c .before .before .before .before .before .before .loop .at in
+    Stepped (length (c .before .before .before .before .before .before .before .before .before .before .before .args .tree .now)) (c .before .before .before .before .before .before .loop .inv .3 .st) (lineAt s at .line) (lineAt s at .next) (c .before .before .before .before .before .before .loop .p) (c .step .result)
+    (c .step .last .1 .1 .1 .0) (c .step .last .1 .1 .1 .1 .0) (c .step .last .1 .1 .1 .1 .1 .0)
+stepped c =
+    let s = c .before .before .before .before .before .before .before .before .before .before .before .args .sheet .now in
+    let at = c .before .before .before .before .before .before .loop .at in
+    let R = c .before .before .before .before .before .before .loop .inv .3 in
+    let e = c .before .before .before .before .line-at .ensures in
+    rw e at (stepped-own (c .before .before .before .before .line-at .result .line) (c .before .before .before .before .line-at .result .next) (R .held) (c .step .ensures (R .st) (rw e (line-at-range s at)) (held-own (R .held))))
+
+marks-were : (c : tie.After-step Inv-loop μ-loop) → length (c .before .before .before .before .before .before .loop .marks) ≡ length (c .before .before .before .before .before .before .before .before .before .before .before .args .marks .now)
+marks-were c = marks-long (c .before .before .before .before .before .before .loop .inv .3 .held) ∙ sym (ap length (c .before .before .before .before .before .before .before .before .before .before .before .pre .1))
+
+returns : tie.Need-returns Inv-loop μ-loop
+returns c = rw (read-long _ _ (c .if1 .taken)) (refl, refl, λ z. omega arith)
+
+loop-holds : tie.Need-loop-holds Inv-loop μ-loop
+loop-holds c = (c .if1 .left, omega arith, omega arith, running-blank _ _ _ _ (c .before .before .before .before .pre .0) (c .before .before .before .before .pre .1) (c .if1 .left))
+
+line-at-requires : tie.Need-line-at-requires Inv-loop μ-loop
+line-at-requires c κs = tt
+
+slice-aggregate-step : tie.Need-slice-aggregate-step Inv-loop μ-loop
+slice-aggregate-step c = sym (groups-long (c .before .before .before .before .loop .inv .3 .held))
+
+step-requires : tie.Need-step-requires Inv-loop μ-loop
+step-requires c κs = (omega (arith, c .before .before .before .before .before .loop .inv .0, c .before .before .before .before .before .loop .inv .2, c .before .before .before .before .loop-test .taken), (c .before .before .before .before .before .loop .inv .3 .st, held-own (c .before .before .before .before .before .loop .inv .3 .held)))
+
+same-length : tie.Need-same-length Inv-loop μ-loop
+same-length c = c .before .before .before .before .before .before .before .step .kept .1 .1 .1 .0 ∙ tree-long (c .before .before .before .before .before .before .before .before .before .before .before .before .before .loop .inv .3 .held)
+
+same-length-2 : tie.Need-same-length-2 Inv-loop μ-loop
+same-length-2 c = c .before .before .before .before .before .before .before .step .kept .1 .1 .1 .1 .1 .0 ∙ marks-were (c .before .before .before .before .before .before .before)
+
+returns-2 : tie.Need-returns-2 Inv-loop μ-loop
+returns-2 c = rw (running-refused (c .before .before .before .before .before .before .before .before .before .before .before .before .before .loop .inv .3) (c .before .before .before .before .before .before .before .before .before .before .before .before .loop-test .taken) (stepped (c .before .before .before .before .before .before .before)) (c .if2 .taken)) (refl, refl, c .if2 .taken)
+
+loop-less : tie.Need-loop-less Inv-loop μ-loop
+loop-less c = omega (arith, one-read (c .before .before .before .before .before .before .before) .more, one-read (c .before .before .before .before .before .before .before) .within, c .before .before .before .before .before .before .before .before .before .before .before .before .loop-test .taken)
+
+loop-again : tie.Need-loop-again Inv-loop μ-loop
+loop-again c = (
+  c .before .before .before .before .before .before .before .before .before .before .before .before .before .loop .inv .0,
+  one-read (c .before .before .before .before .before .before .before) .within,
+  omega (arith, one-read (c .before .before .before .before .before .before .before) .more, stepped (c .before .before .before .before .before .before .before) .counted, c .before .before .before .before .before .before .before .before .before .before .before .before .before .loop .inv .2),
+  rw (c .before .before .before .before .before .before .before .before .before .before .before .line-at .ensures) (running-next (c .before .before .before .before .before .before .before .before .before .before .before .before .before .loop .inv .3) (c .before .before .before .before .before .before .before .before .before .before .before .before .loop-test .taken) (stepped (c .before .before .before .before .before .before .before)) (c .if2 .left)),
+)
+
+same-length-3 : tie.Need-same-length-3 Inv-loop μ-loop
+same-length-3 c = tree-long (c .before .before .before .loop .inv .3 .held)
+
+same-length-4 : tie.Need-same-length-4 Inv-loop μ-loop
+same-length-4 c = marks-long (c .before .before .before .loop .inv .3 .held) ∙ sym (ap length (c .before .before .before .before .before .before .before .before .pre .1))
+
+returns-3 : tie.Need-returns-3 Inv-loop μ-loop
+returns-3 c = let R = c .before .before .before .loop .inv .3 in rw (running-accepted R (c .before .before .loop-test .left) (c .if3 .taken)) (holds-gives (R .held))
+
+faulty-requires : tie.Need-faulty-requires Inv-loop μ-loop
+faulty-requires c κs = omega (arith, c .before .before .before .loop .inv .0, c .before .before .before .loop .inv .1, c .before .before .before .loop .inv .2)
+
+same-length-5 : tie.Need-same-length-5 Inv-loop μ-loop
+same-length-5 c = tree-long (c .before .before .before .before .loop .inv .3 .held)
+
+same-length-6 : tie.Need-same-length-6 Inv-loop μ-loop
+same-length-6 c = marks-long (c .before .before .before .before .loop .inv .3 .held) ∙ sym (ap length (c .before .before .before .before .before .before .before .before .before .pre .1))
+
+returns-4 : tie.Need-returns-4 Inv-loop μ-loop
+returns-4 c = let R = c .before .before .before .before .loop .inv .3 in rw (running-open R (c .before .before .before .loop-test .left) (c .before .if3 .left)) (c .faulty .ensures .0, c .faulty .ensures .1, λ z. omega arith)
+
+pub read-lines-spec : {M : Type 1} → statement M
+read-lines-spec =
+    tie.close
+    (tie.spec
+    Inv-loop
+    μ-loop
+    returns
+    loop-holds
+    line-at-requires
+    slice-aggregate-step
+    step-requires
+    same-length
+    same-length-2
+    returns-2
+    loop-less
+    loop-again
+    same-length-3
+    same-length-4
+    returns-3
+    faulty-requires
+    same-length-5
+    same-length-6
+    returns-4)

@@ -1,0 +1,12 @@
+-- `refusal`: the definition's answer, by computation.
+use mathlib.Core.Path.{refl}
+use Rattle.sheet.specs.Reading.{answer}
+use Rattle.sheet.proofs.refusal.Statement.{statement}
+use Rattle.sheet.proofs.refusal.Tie as tie
+
+returns : tie.Need-returns
+unfolding answer
+returns c = refl
+
+pub refusal-spec : {M : Type 1} → statement M
+refusal-spec = tie.close (tie.spec returns)

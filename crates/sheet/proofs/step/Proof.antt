@@ -1,0 +1,104 @@
+-- `step`: each arm is its kind's step.
+use native.Mathlib.Omega.{arith}
+use Rattle.sheet.specs.declared.Line.the-variants.{Bad}
+use Rattle.sheet.proofs.HoldLaws.{stepped-faulty, fault-bad}
+use borrow.Author.Needs.{needs}
+use Rattle.sheet.proofs.step.Statement.{statement}
+use Rattle.sheet.proofs.step.Tie as tie
+
+enum-told : tie.Need-enum-told
+enum-told c = search needs
+
+faulty-requires : tie.Need-faulty-requires
+faulty-requires c κs = search needs
+
+enum-known-line : tie.Need-enum-known-line
+enum-known-line c = search needs
+
+group-step-requires : tie.Need-group-step-requires
+group-step-requires c κs = search needs
+
+enum-known-line-2 : tie.Need-enum-known-line-2
+enum-known-line-2 c = search needs
+
+operator-step-requires : tie.Need-operator-step-requires
+operator-step-requires c κs = search needs
+
+enum-told-2 : tie.Need-enum-told-2
+enum-told-2 c = search needs
+
+lift-step-requires : tie.Need-lift-step-requires
+lift-step-requires c κs = search needs
+
+enum-known-line-3 : tie.Need-enum-known-line-3
+enum-known-line-3 c = search needs
+
+mark-step-requires : tie.Need-mark-step-requires
+mark-step-requires c κs = search needs
+
+enum-told-3 : tie.Need-enum-told-3
+enum-told-3 c = search needs
+
+end-step-requires : tie.Need-end-step-requires
+end-step-requires c κs = search needs
+
+returns : tie.Need-returns
+returns c = λ st r h. rw (c .before .enum-told .given .1) (stepped-faulty h Bad _ _ _ _ _ _ (c .faulty .ensures) (fault-bad h) (λ z. omega arith))
+
+same-length : tie.Need-same-length
+same-length c = search needs
+
+same-length-2 : tie.Need-same-length-2
+same-length-2 c = search needs
+
+returns-2 : tie.Need-returns-2
+returns-2 c = λ st r h. let e = c .before .before .before .before .before .before .before .before .line .given .1 in rw e (c .before .before .before .before .group-step .ensures st _ (rw e at r) h)
+
+same-length-3 : tie.Need-same-length-3
+same-length-3 c = search needs
+
+returns-3 : tie.Need-returns-3
+returns-3 c = λ st r h. let e = c .before .before .before .before .before .line2 .given .1 in rw e (c .before .before .operator-step .ensures st _ _ (rw e at r) h)
+
+returns-4 : tie.Need-returns-4
+returns-4 c = λ st r h. rw (c .before .enum-told2 .given .1) (c .lift-step .ensures _ st _ _ _ _ _ _ h)
+
+same-length-4 : tie.Need-same-length-4
+same-length-4 c = search needs
+
+same-length-5 : tie.Need-same-length-5
+same-length-5 c = search needs
+
+returns-5 : tie.Need-returns-5
+returns-5 c = λ st r h. rw (c .before .before .before .before .before .before .line3 .given .1) (c .before .before .mark-step .ensures _ st _ _ h)
+
+returns-6 : tie.Need-returns-6
+returns-6 c = λ st r h. rw (c .before .enum-told3 .given .1) (c .end-step .ensures _ st _ _ _ _ h)
+
+pub step-spec : {M : Type 1} → statement M
+step-spec =
+    tie.close
+    (tie.spec
+    enum-told
+    faulty-requires
+    enum-known-line
+    group-step-requires
+    enum-known-line-2
+    operator-step-requires
+    enum-told-2
+    lift-step-requires
+    enum-known-line-3
+    mark-step-requires
+    enum-told-3
+    end-step-requires
+    returns
+    same-length
+    same-length-2
+    returns-2
+    same-length-3
+    returns-3
+    returns-4
+    same-length-4
+    same-length-5
+    returns-5
+    returns-6)

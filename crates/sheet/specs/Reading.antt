@@ -1,0 +1,185 @@
+-- Document 01, "The sheet": what reading answers for any bytes, the first fault first.
+use mathlib.Core.Bool.{Bool, not, cond, _&&_}
+use mathlib.Core.List.{List, [], _∷_, _++_}
+use mathlib.Core.Option.{Option, some, none}
+use Prim.Native.Nat.{ℕ, _+_}
+use lib.Dec.{eqb, leb, ltb}
+use lib.ListN.{length, replicate}
+use Rattle.tree.specs.Tree.{Tree, isIn, withNew}
+use Rattle.tree.specs.Parse.{waiting}
+use Rattle.tree.specs.Writing.{over}
+use Rattle.text.specs.Parts.{Parts, last, part, split}
+use Rattle.text.specs.Line.{lineFeed}
+use Rattle.sheet.specs.Form.{lineOf}
+use Rattle.sheet.specs.declared.Line.{Line}
+use Rattle.sheet.specs.declared.Line.the-variants.{Group, Operator, Lift, Mark, End, Bad}
+use Rattle.sheet.specs.declared.Sheet.{Sheet}
+
+-- "1 (line 0) over 60,000 bytes"
+abbrev pub mostBytes : ℕ
+mostBytes = 60000
+
+-- "at most 1,023 nodes and 8 different groups"
+abbrev pub mostSheetNodes : ℕ
+mostSheetNodes = 1023
+
+abbrev pub mostGroups : ℕ
+mostGroups = 8
+
+-- "`L` position levels: a lift"
+pub record LiftLine : Type 0 where
+  pub position : ℕ
+  pub levels : ℕ
+
+-- What has been read: the tree's entries and different groups, the marks and the lifts, all in sheet order, and the byte
+-- after the tree lines. `phase` is the place of the last line: lines of a lower place may no longer come.
+pub record State : Type 0 where
+  pub phase : ℕ
+  pub entries : List ℕ
+  pub groups : List ℕ
+  pub marks : List ℕ
+  pub start : ℕ
+  pub lifts : List LiftLine
+
+-- "Tree lines come first, then lifts if any, then marks if any, then one `E`."
+abbrev pub place : Line → ℕ
+place Bad = 0
+place (Group g) = 0
+place (Operator x) = 0
+place (Lift p n) = 1
+place (Mark g) = 2
+place End = 3
+
+-- the phase after `E`: nothing may come
+abbrev pub ended : ℕ
+ended = 4
+
+-- the trees that wait after these entries
+abbrev pub orNone : Option (List Tree) → List Tree
+orNone none = []
+orNone (some ts) = ts
+
+unfoldable pub trees : List ℕ → List Tree
+trees entries = orNone (waiting 0 entries [])
+
+-- the first of two faults; 0 is none
+abbrev pub first : ℕ → ℕ → ℕ
+first f g = cond (eqb f 0) g f
+
+-- "2 a line of no such form"
+abbrev pub formFault : Line → ℕ
+formFault Bad = 2
+formFault (Group g) = 0
+formFault (Operator x) = 0
+formFault (Lift p n) = 0
+formFault (Mark g) = 0
+formFault End = 0
+
+-- "3 a line of good form out of its place, or after `E`; 7 the first line after the tree lines (line 1 if there are none)
+-- when they don't make one tree"; `many` trees wait
+abbrev pub orderFault : ℕ → ℕ → ℕ → ℕ
+orderFault phase many place = cond (ltb place phase) 3 (cond (eqb phase 0 && ltb 0 place && not (eqb many 1)) 7 0)
+
+-- "then by kind, in this order: 4 `U` or `D` with fewer than two trees waiting; 5 a 1,024th node; 6 a ninth different group;
+-- 8 a mark of a group not in the tree; 9 a mark twice"
+abbrev pub kindFault : ℕ → State → Line → ℕ
+kindFault most st (Operator x) = cond (ltb (length (trees (st .entries))) 2) 4 (cond (leb most (length (st .entries))) 5 0)
+kindFault most st (Group g) =
+    cond (leb most (length (st .entries))) 5 (cond (not (isIn (st .groups) g) && leb mostGroups (length (st .groups))) 6 0)
+kindFault most st (Mark g) = cond (isIn (st .groups) g) (cond (isIn (st .marks) g) 9 0) 8
+kindFault most st (Lift p n) = 0
+kindFault most st End = 0
+kindFault most st Bad = 0
+
+-- the first fault of a line, where a tree may have `most` nodes; 0 is none
+unfoldable pub faultOf : ℕ → State → Line → ℕ
+faultOf most st l = first (formFault l) (first (orderFault (st .phase) (length (trees (st .entries))) (place l)) (kindFault most st l))
+
+-- what a line without fault adds; `after` is the byte after it
+abbrev pub entered : State → ℕ → List ℕ → ℕ → State
+entered st x groups after =
+    record { phase = st .phase; entries = st .entries ++ (x ∷ []); groups = groups; marks = st .marks; start = after; lifts = st .lifts }
+
+abbrev pub next : State → Line → ℕ → State
+next st (Group g) after = entered st g (withNew (st .groups) g) after
+next st (Operator x) after = entered st x (st .groups) after
+next st (Lift p n) after =
+    record {
+      phase = 1;
+      entries = st .entries;
+      groups = st .groups;
+      marks = st .marks;
+      start = st .start;
+      lifts = st .lifts ++ (record { position = p; levels = n } ∷ []);
+    }
+next st (Mark g) after =
+    record {
+      phase = 2;
+      entries = st .entries;
+      groups = st .groups;
+      marks = st .marks ++ (g ∷ []);
+      start = st .start;
+      lifts = st .lifts;
+    }
+next st End after =
+    record {
+      phase = ended;
+      entries = st .entries;
+      groups = st .groups;
+      marks = st .marks;
+      start = st .start;
+      lifts = st .lifts;
+    }
+next st Bad after = st
+
+-- nothing read yet
+abbrev pub blank : State
+blank = record { phase = 0; entries = []; groups = []; marks = []; start = 0; lifts = [] }
+
+pub data Outcome : Type 0 where
+  accepted : State → Outcome
+  refused : ℕ → ℕ → Outcome
+
+-- "Then for each line in order": reading the lines that are left, the first of them at the byte `at`, with n lines passed.
+-- What stands behind the last LF is nothing ("10 when lines are used up without `E`, at the line after the last"), or "a
+-- last one without LF" (2).
+unfoldable pub run : ℕ → State → ℕ → ℕ → Parts → Outcome
+run most st n at (last l) =
+    cond (eqb (length l) 0) (cond (eqb (st .phase) ended) (accepted st) (refused 10 (n + 1))) (refused 2 (n + 1))
+run most st n at (part l ls) =
+    cond (eqb (faultOf most st (lineOf l)) 0) (run most (next st (lineOf l) (at + length l + 1)) (n + 1) (at + length l + 1) ls)
+    (refused (faultOf most st (lineOf l)) (n + 1))
+
+-- reading a sheet whose tree may have `most` nodes
+unfoldable pub readWithin : ℕ → List ℕ → Outcome
+readWithin most sheet = cond (ltb mostBytes (length sheet)) (refused 1 0) (run most blank 0 0 (split lineFeed sheet))
+
+-- reading a sheet
+abbrev pub reading : List ℕ → Outcome
+reading sheet = readWithin mostSheetNodes sheet
+
+-- "Accepted, reading answers by value the tree, the marks in sheet order, the byte where the lifts begin .. and how many
+-- there are; entries past the tree's and the marks' ends are 0. Refused, everything but number and line is 0."
+unfoldable pub answer : Outcome → Sheet
+answer (accepted st) =
+    record {
+      number = 0;
+      line = 0;
+      tree = over (st .entries) (replicate mostSheetNodes 0);
+      nodes = length (st .entries);
+      marks = over (st .marks) (replicate mostGroups 0);
+      marked = length (st .marks);
+      start = st .start;
+      lifts = length (st .lifts);
+    }
+answer (refused number line) =
+    record {
+      number = number;
+      line = line;
+      tree = replicate mostSheetNodes 0;
+      nodes = 0;
+      marks = replicate mostGroups 0;
+      marked = 0;
+      start = 0;
+      lifts = 0;
+    }

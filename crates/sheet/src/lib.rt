@@ -1,0 +1,440 @@
+// Reads a sheet.
+ghost use mathlib.Core.Path.{_≡_};
+ghost use mathlib.Core.Bool.{cond};
+ghost use mathlib.Core.List.{List, [], _∷_};
+ghost use mathlib.Core.Option.{Option};
+ghost use Prim.Native.Nat.{ℕ, _+_, _-_, _≤_, _<_};
+ghost use lib.ListN.{length, replicate};
+ghost use Rattle.tree.specs.Tree.{isIn};
+ghost use Rattle.text.specs.Decimal.{capped};
+ghost use Rattle.text.specs.Parts.{Parts, part, split};
+ghost use Rattle.text.specs.Line.{tab};
+ghost use Rattle.sheet.specs.Form.{bare, oneNumber, twoNumbers, formOf, lineOf, lineAt};
+ghost use Rattle.sheet.specs.Reading.{mostBytes, mostGroups, State, orderFault, faultOf, next, reading, readWithin, refused, answer};
+ghost use Rattle.sheet.specs.Holding.{InRange, Holds, Holding, Stepped, Gives};
+
+pub const MOST_BYTES: usize = 60000;
+
+pub const MOST_SHEET_NODES: usize = 1023;
+
+pub const MOST_GROUPS: usize = 8;
+
+pub const MOST_POSITION: u16 = 8190;
+
+pub const LEAST_LEVELS: u16 = 1;
+
+pub const MOST_LEVELS: u16 = 99;
+
+// A line by its form: a group, an operator as a tree's list has it, a lift's position and levels, a mark, the end, or none.
+pub enum Line {
+    Group(u16),
+    Operator(u16),
+    Lift(u16, u16),
+    Mark(u16),
+    End,
+    Bad,
+}
+
+// A line, and the byte after it.
+pub struct LineAt {
+    pub line: Line,
+    pub next: usize,
+}
+
+// The line of a kind alone.
+fn bare_line(kind: u8) -> Line
+    ensures { λ r. ⌜ r ≡ bare kind ⌝ }
+{
+    if kind == b'U' {
+        return Line::Operator(tree::UNION);
+    }
+    if kind == b'D' {
+        return Line::Operator(tree::DIFFERENCE);
+    }
+    if kind == b'E' {
+        return Line::End;
+    }
+    Line::Bad
+}
+
+// The line of a kind and one number.
+fn one_number(kind: u8, n: u16) -> Line
+    ensures { λ r. ⌜ ((o : Option ℕ) → n ≡ capped o → r ≡ oneNumber kind o) ⌝ }
+{
+    if kind == b'G' {
+        if tree::is_group(n) {
+            return Line::Group(n);
+        }
+        return Line::Bad;
+    }
+    if kind == b'K' {
+        if tree::is_group(n) {
+            return Line::Mark(n);
+        }
+        return Line::Bad;
+    }
+    Line::Bad
+}
+
+// The line of a kind and two numbers.
+fn two_numbers(kind: u8, p: u16, n: u16) -> Line
+    ensures { λ r. ⌜ ((o u : Option ℕ) → p ≡ capped o → n ≡ capped u → r ≡ twoNumbers kind o u) ⌝ }
+{
+    if kind != b'L' {
+        return Line::Bad;
+    }
+    if MOST_POSITION < p {
+        return Line::Bad;
+    }
+    if n < LEAST_LEVELS {
+        return Line::Bad;
+    }
+    if MOST_LEVELS < n {
+        return Line::Bad;
+    }
+    Line::Lift(p, n)
+}
+
+// The line of a kind and what stands behind the tab after it.
+fn fielded_line(kind: u8, rest: &[u8]) -> Line
+    ensures { λ r. ⌜ r ≡ formOf (part (kind ∷ []) (split tab (now (rest .entry)))) ⌝ }
+{
+    let t = text::find(rest, text::TAB);
+    if t == rest.len() {
+        return one_number(kind, text::number(rest));
+    }
+    let p = text::number(&rest[..t]);
+    let n = text::number(&rest[t + 1..]);
+    two_numbers(kind, p, n)
+}
+
+// The form of a line, given without its LF.
+fn line_of(bytes: &[u8]) -> Line
+    ensures { λ r. ⌜ r ≡ lineOf (now (bytes .entry)) ⌝ }
+{
+    if text::find(bytes, text::TAB) != 1 {
+        return Line::Bad;
+    }
+    if bytes.len() == 1 {
+        return bare_line(bytes[0]);
+    }
+    fielded_line(bytes[0], &bytes[2..])
+}
+
+// The line at a byte of a sheet, and the byte after it.
+pub fn line_at(sheet: &[u8], at: usize) -> LineAt
+    ensures { λ r. ⌜ r ≡ lineAt (now (sheet .entry)) at ⌝ }
+{
+    if sheet.len() <= at {
+        return LineAt {
+            line: Line::Bad,
+            next: at,
+        };
+    }
+    let rest = &sheet[at..];
+    let k = text::find(rest, text::LINE_FEED);
+    if k == rest.len() {
+        return LineAt {
+            line: Line::Bad,
+            next: at + k,
+        };
+    }
+    let line = line_of(&rest[..k]);
+    LineAt {
+        line: line,
+        next: at + k + 1,
+    }
+}
+
+// Whether a number stands in a list.
+fn is_in(list: &[u16], x: u16) -> bool
+    ensures { λ r. ⌜ r ≡ isIn (now (list .entry)) x ⌝ }
+{
+    let mut i = 0;
+    while i < list.len() {
+        if x == list[i] {
+            return true;
+        }
+        i += 1;
+    }
+    false
+}
+
+// How far reading has come. The arrays beside it hold the tree's entries (`nodes`), its different groups (`different`) and
+// the marks (`marked`). `phase` is the place of the last line, `waiting` the number of trees that wait.
+pub struct Progress {
+    pub fault: u8,
+    pub line: usize,
+    pub phase: u8,
+    pub nodes: usize,
+    pub waiting: usize,
+    pub different: usize,
+    pub marked: usize,
+    pub start: usize,
+    pub lifts: usize,
+}
+
+// The places of the lines, in their order, and the phase after the end.
+const TREE: u8 = 0;
+
+const LIFTS: u8 = 1;
+
+const MARKS: u8 = 2;
+
+const END: u8 = 3;
+
+const ENDED: u8 = 4;
+
+// The progress with a line's fault.
+fn faulty(p: Progress, fault: u8) -> Progress
+    requires { ⌜ p .line ≤ mostBytes ⌝ }
+    ensures { λ r. ⌜ (r .fault ≡ fault) × (r .line ≡ p .line + 1) ⌝ }
+{
+    let mut q = p;
+    q.fault = fault;
+    q.line = q.line + 1;
+    q
+}
+
+// The fault of a line out of its place (3), or first after tree lines that make no tree (7).
+fn order_fault(phase: u8, waiting: usize, place: u8) -> u8
+    ensures { λ r. ⌜ r ≡ orderFault phase waiting place ⌝ }
+{
+    if place < phase {
+        return 3;
+    }
+    let none = (phase == 0) & (0 < place) & (waiting != 1);
+    if none {
+        return 7;
+    }
+    0
+}
+
+// Reads a line with a group.
+fn group_step(p: Progress, g: u16, after: usize, tree: &mut [u16], groups: &mut [u16]) -> Progress
+    requires { ⌜ (p .line < mostBytes) × ((ms : List ℕ) × Holding (length (now tree)) p (now tree) (now groups) ms) ⌝ }
+    ensures { λ r. ⌜ ((st : State) (ms : List ℕ) → InRange (Line.Group g) → Holds (length (now (tree .entry))) st p (now (tree .entry)) (now (groups .entry)) ms
+        → Stepped (length (now (tree .entry))) st (Line.Group g) after p r (now (tree .exit)) (now (groups .exit)) ms) ⌝ }
+{
+    let fault = order_fault(p.phase, p.waiting, TREE);
+    if fault != 0 {
+        return faulty(p, fault);
+    }
+    let at = p.nodes;
+    if tree.len() <= at {
+        return faulty(p, 5);
+    }
+    let n = p.different;
+    let mut q = p;
+    q.line = p.line + 1;
+    q.nodes = at + 1;
+    q.waiting = p.waiting + 1;
+    q.start = after; // also where no lift comes
+    if is_in(&groups[..n], g) {
+        tree[at] = g;
+        return q;
+    }
+    if MOST_GROUPS <= n {
+        return faulty(p, 6);
+    }
+    tree[at] = g;
+    groups[n] = g;
+    q.different = n + 1;
+    q
+}
+
+// Reads a line with an operator.
+fn operator_step(p: Progress, x: u16, after: usize, tree: &mut [u16]) -> Progress
+    requires { ⌜ (p .line < mostBytes) × ((gs : List ℕ) × (ms : List ℕ) × Holding (length (now tree)) p (now tree) gs ms) ⌝ }
+    ensures { λ r. ⌜ ((st : State) (gs ms : List ℕ) → InRange (Line.Operator x) → Holds (length (now (tree .entry))) st p (now (tree .entry)) gs ms
+        → Stepped (length (now (tree .entry))) st (Line.Operator x) after p r (now (tree .exit)) gs ms) ⌝ }
+{
+    let fault = order_fault(p.phase, p.waiting, TREE);
+    if fault != 0 {
+        return faulty(p, fault);
+    }
+    if p.waiting < 2 {
+        return faulty(p, 4);
+    }
+    let at = p.nodes;
+    if tree.len() <= at {
+        return faulty(p, 5);
+    }
+    let mut q = p;
+    q.line = p.line + 1;
+    q.nodes = at + 1;
+    q.waiting = p.waiting - 1;
+    q.start = after;
+    tree[at] = x;
+    q
+}
+
+// Reads a line with a lift.
+fn lift_step(p: Progress) -> Progress
+    requires { ⌜ (p .line < mostBytes) × (p .lifts ≤ p .line) ⌝ }
+    ensures { λ r. ⌜ ((most : ℕ) (st : State) (position levels after : ℕ) (es gs ms : List ℕ) → Holds most st p es gs ms
+        → Stepped most st (Line.Lift position levels) after p r es gs ms) ⌝ }
+{
+    let fault = order_fault(p.phase, p.waiting, LIFTS);
+    if fault != 0 {
+        return faulty(p, fault);
+    }
+    let mut q = p;
+    q.line = p.line + 1;
+    q.phase = LIFTS;
+    q.lifts = p.lifts + 1;
+    q
+}
+
+// Reads a line with a mark.
+fn mark_step(p: Progress, g: u16, groups: &[u16], marks: &mut [u16]) -> Progress
+    requires { ⌜ (p .line < mostBytes) × ((most : ℕ) × (es : List ℕ) × Holding most p es (now groups) (now marks)) ⌝ }
+    ensures { λ r. ⌜ ((most : ℕ) (st : State) (after : ℕ) (es : List ℕ) → Holds most st p es (now (groups .entry)) (now (marks .entry))
+        → Stepped most st (Line.Mark g) after p r es (now (groups .entry)) (now (marks .exit))) ⌝ }
+{
+    let fault = order_fault(p.phase, p.waiting, MARKS);
+    if fault != 0 {
+        return faulty(p, fault);
+    }
+    let n = p.different;
+    if is_in(&groups[..n], g) {
+        let m = p.marked;
+        if is_in(&marks[..m], g) {
+            return faulty(p, 9);
+        }
+        let mut q = p;
+        q.line = p.line + 1;
+        q.phase = MARKS;
+        q.marked = m + 1;
+        marks[m] = g;
+        return q;
+    }
+    faulty(p, 8)
+}
+
+// Reads the end.
+fn end_step(p: Progress) -> Progress
+    requires { ⌜ p .line < mostBytes ⌝ }
+    ensures { λ r. ⌜ ((most : ℕ) (st : State) (after : ℕ) (es gs ms : List ℕ) → Holds most st p es gs ms
+        → Stepped most st Line.End after p r es gs ms) ⌝ }
+{
+    let fault = order_fault(p.phase, p.waiting, END);
+    if fault != 0 {
+        return faulty(p, fault);
+    }
+    let mut q = p;
+    q.line = p.line + 1;
+    q.phase = ENDED;
+    q
+}
+
+// Reads a line; `after` is the byte after it.
+fn step(
+    p: Progress,
+    line: Line,
+    after: usize,
+    tree: &mut [u16],
+    groups: &mut [u16],
+    marks: &mut [u16],
+) -> Progress
+    requires { ⌜ (p .line < mostBytes) × Holding (length (now tree)) p (now tree) (now groups) (now marks) ⌝ }
+    ensures { λ r. ⌜ ((st : State) → InRange line → Holds (length (now (tree .entry))) st p (now (tree .entry)) (now (groups .entry)) (now (marks .entry))
+        → Stepped (length (now (tree .entry))) st line after p r (now (tree .exit)) (now (groups .exit)) (now (marks .exit))) ⌝ }
+{
+    match line {
+        Line::Bad => faulty(p, 2),
+        Line::Group(g) => group_step(p, g, after, tree, groups),
+        Line::Operator(x) => operator_step(p, x, after, tree),
+        Line::Lift(_, _) => lift_step(p),
+        Line::Mark(g) => mark_step(p, g, groups, marks),
+        Line::End => end_step(p),
+    }
+}
+
+// Reads the lines of a sheet into `tree` and `marks`, which hold zeros. The tree may have as many nodes as `tree` has room.
+fn read_lines(sheet: &[u8], tree: &mut [u16], marks: &mut [u16]) -> Progress
+    requires { ⌜ (now tree ≡ replicate (length (now tree)) 0) × (now marks ≡ replicate mostGroups 0) ⌝ }
+    ensures { λ r. ⌜ Gives (length (now (tree .entry))) (readWithin (length (now (tree .entry))) (now (sheet .entry))) r (now (tree .exit)) (now (marks .exit)) ⌝ }
+{
+    let mut p = Progress {
+        fault: 0,
+        line: 0,
+        phase: TREE,
+        nodes: 0,
+        waiting: 0,
+        different: 0,
+        marked: 0,
+        start: 0,
+        lifts: 0,
+    };
+    if MOST_BYTES < sheet.len() {
+        p.fault = 1;
+        return p;
+    }
+    let mut groups: [u16; MOST_GROUPS] = [0; MOST_GROUPS];
+    let mut at = 0;
+    while at < sheet.len() {
+        let here = line_at(sheet, at);
+        let line = here.line;
+        at = here.next;
+        p = step(p, line, at, tree, &mut groups, marks);
+        if p.fault != 0 {
+            return p;
+        }
+    }
+    if p.phase == ENDED {
+        return p;
+    }
+    faulty(p, 10)
+}
+
+// What reading answers: the number and the line of the first fault, both 0 where the sheet is accepted; the tree's entries,
+// the marks, the byte where the lifts begin and how many there are. Entries past the ends are 0, and where the sheet is
+// refused everything but number and line is 0.
+pub struct Sheet {
+    pub number: u8,
+    pub line: usize,
+    pub tree: [u16; MOST_SHEET_NODES],
+    pub nodes: usize,
+    pub marks: [u16; MOST_GROUPS],
+    pub marked: usize,
+    pub start: usize,
+    pub lifts: usize,
+}
+
+fn refusal(number: u8, line: usize) -> Sheet
+    ensures { λ r. ⌜ r ≡ answer (refused number line) ⌝ }
+{
+    Sheet {
+        number: number,
+        line: line,
+        tree: [0; MOST_SHEET_NODES],
+        nodes: 0,
+        marks: [0; MOST_GROUPS],
+        marked: 0,
+        start: 0,
+        lifts: 0,
+    }
+}
+
+// Reads a sheet.
+pub fn read(sheet: &[u8]) -> Sheet
+    ensures { λ r. ⌜ r ≡ answer (reading (now (sheet .entry))) ⌝ }
+{
+    let mut tree: [u16; MOST_SHEET_NODES] = [0; MOST_SHEET_NODES];
+    let mut marks: [u16; MOST_GROUPS] = [0; MOST_GROUPS];
+    let p = read_lines(sheet, &mut tree, &mut marks);
+    if p.fault != 0 {
+        return refusal(p.fault, p.line);
+    }
+    Sheet {
+        number: 0,
+        line: 0,
+        tree: tree,
+        nodes: p.nodes,
+        marks: marks,
+        marked: p.marked,
+        start: p.start,
+        lifts: p.lifts,
+    }
+}

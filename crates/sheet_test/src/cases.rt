@@ -1,0 +1,203 @@
+// Sheets by cases.
+ghost use Prim.Native.Nat.{_≤_};
+ghost use lib.ListN.{length};
+
+fn print(n: usize) {
+    io::write_all(1, b" ");
+    io::print_decimal(1, n as u64);
+}
+
+// A case's name and what reading answers for it.
+fn show(name: &[u8], bytes: &[u8]) {
+    let r = sheet::read(bytes);
+    io::write_all(1, name);
+    io::write_all(1, b":");
+    print(r.number as usize);
+    print(r.line);
+    print(r.nodes);
+    print(r.marked);
+    print(r.start);
+    print(r.lifts);
+    io::write_all(1, b"\n");
+}
+
+fn wide(x: u16) -> usize {
+    x as usize
+}
+
+// The first numbers of a list.
+fn show_list(name: &[u8], list: &[u16], count: usize) {
+    io::write_all(1, name);
+    let mut i = 0;
+    while i < list.len() {
+        if i == count {
+            io::write_all(1, b"\n");
+            return;
+        }
+        print(wide(list[i]));
+        i += 1;
+    }
+    io::write_all(1, b"\n");
+}
+
+// The report's example, with its tree's first entries and its marks.
+pub fn example() {
+    let bytes = b"G\t1\nG\t2\nD\nG\t3\nD\nG\t4\nU\nG\t5\nD\nL\t0\t2\nK\t3\nK\t2\nE\n";
+    show(b"example", bytes);
+    let r = sheet::read(bytes);
+    let tree = r.tree;
+    let marks = r.marks;
+    show_list(b"its tree", &tree, 11);
+    show_list(b"its marks", &marks, 8);
+}
+
+pub fn order() {
+    show(b"empty", b"");
+    show(b"end alone", b"E\n");
+    show(b"no end", b"G\t1\n");
+    show(b"last line without LF", b"G\t1\nE");
+    show(b"line without LF after the end", b"G\t1\nE\nE");
+    show(b"good line after the end", b"G\t1\nE\nE\n");
+    show(b"bad line after the end", b"G\t1\nE\nX\n");
+    show(b"group after a lift", b"G\t1\nL\t0\t1\nG\t2\n");
+    show(b"lift after a mark", b"G\t1\nK\t1\nL\t0\t1\n");
+    show(b"lift first", b"L\t0\t1\n");
+    show(b"mark first", b"K\t1\n");
+    show(
+        b"lifts begin after the tree without lifts",
+        b"G\t1\nK\t1\nE\n",
+    );
+}
+
+pub fn trees() {
+    show(b"two trees before the end", b"G\t1\nG\t2\nE\n");
+    show(b"two trees before a lift", b"G\t1\nG\t2\nL\t0\t1\nE\n");
+    show(
+        b"two trees before a mark of no group",
+        b"G\t1\nG\t2\nK\t3\nE\n",
+    );
+    show(b"operator first", b"U\nE\n");
+    show(b"operator with one tree", b"G\t1\nD\n");
+}
+
+pub fn marks() {
+    show(b"mark of no group", b"G\t1\nK\t2\nE\n");
+    show(b"mark twice", b"G\t1\nK\t1\nK\t1\nE\n");
+    show(b"mark of no group twice", b"G\t1\nK\t1\nK\t2\nK\t2\nE\n");
+}
+
+pub fn groups() {
+    show(b"group 0", b"G\t0\nE\n");
+    show(b"group 01", b"G\t01\nE\n");
+    show(b"group 10000", b"G\t10000\nE\n");
+    show(b"group 65537", b"G\t65537\nE\n");
+    show(b"group of 20 digits", b"G\t18446744073709551617\nE\n");
+    show(b"group with a space", b"G\t 1\nE\n");
+    show(b"group with a CR", b"G\t1\r\nE\n");
+    show(b"group with no field", b"G\nE\n");
+    show(b"group with an empty field", b"G\t\nE\n");
+    show(b"group with two fields", b"G\t1\t2\nE\n");
+    show(b"group 9999", b"G\t9999\nE\n");
+    show(b"mark 0", b"G\t1\nK\t0\nE\n");
+}
+
+pub fn lifts() {
+    show(b"position 8191", b"G\t1\nL\t8191\t1\nE\n");
+    show(b"position 8190", b"G\t1\nL\t8190\t1\nE\n");
+    show(b"levels 100", b"G\t1\nL\t0\t100\nE\n");
+    show(b"levels 99", b"G\t1\nL\t0\t99\nE\n");
+    show(b"levels 0", b"G\t1\nL\t0\t0\nE\n");
+    show(b"lift with one field", b"G\t1\nL\t0\nE\n");
+    show(b"lift with three fields", b"G\t1\nL\t0\t1\t1\nE\n");
+    show(b"lift with a last tab", b"G\t1\nL\t0\t1\t\nE\n");
+}
+
+pub fn bytes() {
+    show(b"empty line", b"\n");
+    show(b"two tabs", b"G\t\t1\nE\n");
+    show(b"kind of two letters", b"GG\t1\nE\n");
+    show(b"end with a field", b"G\t1\nE\t1\n");
+    show(b"NUL", b"G\t1\n\x00\nE\n");
+    show(b"255", b"G\t\xff\nE\n");
+}
+
+// Appends bytes where there is room for them.
+fn append(out: &mut [u8], at: usize, bytes: &[u8]) -> usize
+    requires { ⌜ at ≤ length (now out) ⌝ }
+    ensures { λ r. ⌜ r ≤ length (now (out .exit)) ⌝ }
+{
+    if out.len() - at < bytes.len() {
+        return at;
+    }
+    text::put_bytes(bytes, out, at)
+}
+
+fn repeat(out: &mut [u8], at: usize, bytes: &[u8], times: usize) -> usize
+    requires { ⌜ at ≤ length (now out) ⌝ }
+    ensures { λ r. ⌜ r ≤ length (now (out .exit)) ⌝ }
+{
+    let mut next = at;
+    let mut i = 0;
+    while i < times {
+        next = append(out, next, bytes);
+        i += 1;
+    }
+    next
+}
+
+// A first part, that many lines `G 1` and `U`, a last part and the end.
+fn put_nodes(out: &mut [u8], first: &[u8], groups: usize, operators: usize, last: &[u8]) -> usize
+    ensures { λ r. ⌜ r ≤ length (now (out .exit)) ⌝ }
+{
+    let a = append(out, 0, first);
+    let b = repeat(out, a, b"G\t1\n", groups);
+    let c = repeat(out, b, b"U\n", operators);
+    let d = append(out, c, last);
+    append(out, d, b"E\n")
+}
+
+fn show_nodes(name: &[u8], first: &[u8], groups: usize, operators: usize, last: &[u8]) {
+    let mut buffer = io::large_buffer();
+    let n = put_nodes(&mut buffer, first, groups, operators, last);
+    show(name, &buffer[..n]);
+}
+
+// The limits of nodes and groups.
+pub fn nodes() {
+    let eight = b"G\t1\nG\t2\nG\t3\nG\t4\nG\t5\nG\t6\nG\t7\nG\t8\n";
+    show_nodes(b"1023 nodes", b"", 512, 511, b"");
+    show_nodes(b"1024th node a group", b"", 512, 511, b"G\t1\n");
+    show_nodes(b"1024th node an operator", b"", 513, 510, b"U\n");
+    show_nodes(
+        b"1024th node an operator with one tree",
+        b"",
+        512,
+        511,
+        b"U\n",
+    );
+    show_nodes(b"1024th node a ninth group", eight, 504, 511, b"G\t9\n");
+    show_nodes(b"ninth group", eight, 0, 0, b"G\t9\n");
+    show_nodes(b"eight groups", eight, 0, 7, b"");
+    show_nodes(b"eight groups, one again", eight, 1, 8, b"");
+}
+
+// A group, that many lines `L 0 1`, and the end.
+fn put_lifts(out: &mut [u8], group: &[u8], lifts: usize) -> usize
+    ensures { λ r. ⌜ r ≤ length (now (out .exit)) ⌝ }
+{
+    let a = append(out, 0, group);
+    let b = repeat(out, a, b"L\t0\t1\n", lifts);
+    append(out, b, b"E\n")
+}
+
+fn show_lifts(name: &[u8], group: &[u8], lifts: usize) {
+    let mut buffer = io::large_buffer();
+    let n = put_lifts(&mut buffer, group, lifts);
+    show(name, &buffer[..n]);
+}
+
+// The limit of bytes.
+pub fn sizes() {
+    show_lifts(b"60000 bytes", b"G\t1\n", 9999);
+    show_lifts(b"60001 bytes", b"G\t12\n", 9999);
+}

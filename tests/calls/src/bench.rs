@@ -1,0 +1,188 @@
+//! The verified program and calls beside the reference: medians of the same inputs, and their ratio.
+//! The two take turns. Buffers are not cleared between calls.
+//!
+//! bench PROGRAM    PROGRAM: the key program; the reference's own is looked for beside this one
+
+use calls::library;
+use reference::calls::{encode_call, gather_call, lift_call, play_call, CODE_BUFFER, TREE_BUFFER};
+use reference::check::table;
+use reference::coder::encode;
+use reference::gather::rows;
+use reference::lift::lift;
+use reference::player::{LAMP_BYTES, MAXIMUM_PAIRS};
+use reference::random::Random;
+use reference::shape::{gatherable_table, levels_of_nodes, padded, table_tree, Shape};
+use reference::sheet::{Sheet, SHEET_NODES};
+use reference::tree::{groups, DIFFERENCE, MAXIMUM_NODES};
+use std::io::Write;
+use std::path::Path;
+use std::process::{Command, ExitCode, Stdio};
+use std::time::{Duration, Instant};
+
+const RATIO_BAR: f64 = 2.0;
+const KEY_BAR: Duration = Duration::from_millis(20);
+const SHEET_LIFTS: usize = 50;
+const PROGRAM_RUNS: usize = 101;
+const CALL_RUNS: usize = 201;
+
+fn timed(run: &mut dyn FnMut()) -> Duration {
+    let began = Instant::now();
+    run();
+    began.elapsed()
+}
+
+/// The result counts as used.
+fn keep<Value>(value: Value) {
+    std::hint::black_box(value);
+}
+
+fn median(mut times: Vec<Duration>) -> Duration {
+    times.sort();
+    times[times.len() / 2]
+}
+
+/// Prints one comparison; answers the verified side's time.
+fn compare(name: &str, runs: usize, verified: &mut dyn FnMut(), reference: &mut dyn FnMut()) -> Duration {
+    let pairs: Vec<(Duration, Duration)> = (0..runs).map(|_| (timed(verified), timed(reference))).collect();
+    let (verified, reference): (Vec<Duration>, Vec<Duration>) = pairs.into_iter().unzip();
+    let (verified, reference) = (median(verified), median(reference));
+    let ratio = verified.as_secs_f64() / reference.as_secs_f64();
+    let note = if ratio > RATIO_BAR { "  ABOVE 2.0" } else { "" };
+    let microseconds = |time: Duration| time.as_secs_f64() * 1e6;
+    println!("{name:<44} {:>11.1} us {:>11.1} us {ratio:>7.2}{note}", microseconds(verified), microseconds(reference));
+    verified
+}
+
+/// Runs a key program once on a sheet.
+fn run_program(program: &Path, sheet: &[u8]) {
+    let spawned = Command::new(program).stdin(Stdio::piped()).stdout(Stdio::piped()).spawn();
+    let mut child = spawned.expect("the program starts");
+    child.stdin.take().expect("its input").write_all(sheet).expect("the sheet is written");
+    assert!(child.wait_with_output().expect("its output").status.success());
+}
+
+fn sheet(tree: &[u16], lifts: &[(usize, usize)], marks: &[u16]) -> Vec<u8> {
+    Sheet { tree: tree.to_vec(), lifts: lifts.to_vec(), marks: marks.to_vec() }.print()
+}
+
+/// So many lifts that are done, one after the other, in a tree that stays within `most` nodes.
+fn done_lifts(tree: &[u16], count: usize, most: usize, random: &mut Random) -> Vec<(usize, usize)> {
+    let mut tree = tree.to_vec();
+    let mut lifts = Vec::new();
+    while lifts.len() < count {
+        let position = random.below(tree.len());
+        let level = levels_of_nodes(&tree)[position];
+        let levels = random.between(1, level.saturating_sub(1).clamp(1, 4));
+        match lift(&tree, position, levels) {
+            Ok(lifted) if lifted.tree.len() <= most => {
+                tree = lifted.tree;
+                lifts.push((position, levels));
+            }
+            _ => {}
+        }
+    }
+    lifts
+}
+
+/// A tree of so many nodes that is not gathered for the first two of its groups, but can be.
+fn gatherable_tree(group_count: usize, nodes: usize, random: &mut Random) -> Vec<u16> {
+    let groups: Vec<u16> = (1..=group_count as u16).collect();
+    padded(&table_tree(&gatherable_table(group_count, 2, random), &groups), nodes)
+}
+
+fn any_tree(nodes: usize, groups: u16, random: &mut Random) -> Vec<u16> {
+    let groups: Vec<u16> = (1..=groups).collect();
+    Shape::mixed().tree(nodes.div_ceil(2), &groups, random)
+}
+
+fn bench_keys(program: &Path, own: &Path, random: &mut Random) {
+    let tree = any_tree(SHEET_NODES, 8, random);
+    let lifts = done_lifts(&tree, SHEET_LIFTS, 2 * SHEET_NODES, random);
+    let growing = done_lifts(&tree, SHEET_LIFTS, MAXIMUM_NODES, random);
+    let marked = gatherable_tree(6, SHEET_NODES, random);
+    let sheets = [
+        ("key: no bytes (the start of a process)", Vec::new()),
+        ("key: 1,023 nodes", sheet(&tree, &[], &[])),
+        ("key: 1,023 nodes, 50 lifts", sheet(&tree, &lifts, &[])),
+        ("key: 1,023 nodes, 50 lifts that copy much", sheet(&tree, &growing, &[])),
+        ("key: 1,023 nodes, marks", sheet(&marked, &[], &[1, 2])),
+    ];
+    for (name, sheet) in sheets {
+        let (mut verified, mut reference) = (|| run_program(program, &sheet), || run_program(own, &sheet));
+        let time = compare(name, PROGRAM_RUNS, &mut verified, &mut reference);
+        if time > KEY_BAR {
+            println!("  ABOVE 20 ms");
+        }
+    }
+}
+
+fn bench_lift(name: &str, tree: &[u16], position: usize, levels: usize) {
+    let (mut out, mut own) = (vec![0; TREE_BUFFER], vec![0; TREE_BUFFER]);
+    assert_eq!(library::lift(tree, position, levels, &mut out)[0], 0);
+    compare(name, CALL_RUNS, &mut || keep(library::lift(tree, position, levels, &mut out)), &mut || {
+        keep(lift_call(tree, position, levels, &mut own))
+    });
+}
+
+/// Lifts in a tree of 8,191 nodes: the first position from which so many levels are done.
+fn bench_lifts(random: &mut Random) {
+    let tree = any_tree(MAXIMUM_NODES - 400, 8, random);
+    for levels in [1, 5, 10] {
+        let done = |&position: &usize| lift(&tree, position, levels).is_ok_and(|lifted| lifted.looks == levels);
+        let position = (tree.len() / 3..tree.len()).find(done).expect("a lift that is done");
+        bench_lift(&format!("lift: {} nodes, levels {levels}", tree.len()), &tree, position, levels);
+    }
+    let chain: Vec<u16> = (0..MAXIMUM_NODES).map(|at| if at > 0 && at % 2 == 0 { DIFFERENCE } else { 1 }).collect();
+    bench_lift("lift: chain of 8,191 nodes, levels 1", &chain, 0, 1);
+    bench_lift("lift: chain of 8,191 nodes, levels 99", &chain, 0, 99);
+}
+
+fn bench_gather(random: &mut Random) {
+    let gatherable = gatherable_tree(8, MAXIMUM_NODES, random);
+    let not_gatherable = any_tree(MAXIMUM_NODES, 8, random);
+    for (name, tree) in [("gather: 8,191 nodes, 8 groups", &gatherable), ("gather: 8,191 nodes, 19", &not_gatherable)] {
+        let (mut out, mut own) = (vec![0; TREE_BUFFER], vec![0; TREE_BUFFER]);
+        compare(name, CALL_RUNS, &mut || keep(library::gather(tree, &[1, 2], &mut out)), &mut || {
+            keep(gather_call(tree, &[1, 2], &mut own))
+        });
+    }
+    let groups = groups(&gatherable);
+    let by_rows = timed(&mut || keep(rows(&gatherable, &groups)));
+    let by_words = timed(&mut || keep(table(&gatherable, &groups)));
+    println!("  (the reference's table row by row, as 01 has it: {by_rows:?}; all rows at once: {by_words:?})");
+}
+
+fn bench_code(random: &mut Random) {
+    let tree = any_tree(MAXIMUM_NODES, 1000, random);
+    let (mut out, mut own) = (vec![0; CODE_BUFFER], vec![0; CODE_BUFFER]);
+    compare("encode: 8,191 nodes", CALL_RUNS, &mut || keep(library::encode(&tree, &mut out)), &mut || {
+        keep(encode_call(&tree, &mut own))
+    });
+    let code = encode(&tree).expect("a tree");
+    let pair = |random: &mut Random| [random.between(1, 1000) as u16, random.between(1, 512) as u16];
+    for pairs in [100, MAXIMUM_PAIRS] {
+        let patch: Vec<u16> = (0..pairs).flat_map(|_| pair(random)).collect();
+        let (mut lamps, mut own_lamps) = ([0; LAMP_BYTES], [0; LAMP_BYTES]);
+        compare(
+            &format!("play: 8,191 instructions, {pairs} pairs"),
+            CALL_RUNS,
+            &mut || keep(library::play(&code, &patch, &mut lamps)),
+            &mut || keep(play_call(&code, &patch, &mut own_lamps)),
+        );
+    }
+}
+
+fn main() -> ExitCode {
+    let Some(program) = std::env::args().nth(1) else {
+        eprintln!("usage: bench PROGRAM");
+        return ExitCode::FAILURE;
+    };
+    let own = std::env::current_exe().expect("this program's path").with_file_name("reference_key");
+    let mut random = Random::new(8);
+    println!("{:<44} {:>14} {:>14} {:>7}", "medians", "verified", "reference", "ratio");
+    bench_keys(Path::new(&program), &own, &mut random);
+    bench_lifts(&mut random);
+    bench_gather(&mut random);
+    bench_code(&mut random);
+    ExitCode::SUCCESS
+}

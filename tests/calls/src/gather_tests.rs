@@ -1,0 +1,149 @@
+//! `gather`: random trees and marks, large tables, the limits and the order of faults.
+
+use crate::faults::{choices, Fault};
+use crate::inputs::{buffer_length, filled, list, numbers, same, same_buffer, MOST_LEAVES};
+use calls::library;
+use reference::calls::{GatherAnswer, TREE_BUFFER};
+use reference::check::{ensure, gathering};
+use reference::random::Random;
+use reference::report::Report;
+use reference::shape::{gatherable_table, join, some_groups, table_tree, Shape};
+use reference::tree::{groups, Operator, DIFFERENCE, UNION};
+
+struct Input {
+    tree: Vec<u16>,
+    marks: Vec<u16>,
+    buffer: usize,
+}
+
+/// The answer and the buffer of a call with a buffer that is long enough.
+fn judge(input: &Input, answer: GatherAnswer, out: &[u16], before: &[u16]) -> Result<(), String> {
+    let [number, length, holder] = answer;
+    if number != 0 {
+        ensure(length == 0 && holder == 0, "numbers besides the refusal's")?;
+        same_buffer(out, before)?;
+        return gathering(&input.tree, &input.marks, Err(number as u16));
+    }
+    let length = length as usize;
+    ensure(length <= TREE_BUFFER, "the tree is longer than 8,191 nodes")?;
+    same_buffer(&out[length..], &before[length..])?;
+    gathering(&input.tree, &input.marks, Ok((&out[..length], holder as usize)))
+}
+
+fn compare(name: &str, input: &Input, report: &mut Report) -> u32 {
+    let before = filled(input.buffer);
+    let mut out = before.clone();
+    let answer = library::gather(&input.tree, &input.marks, &mut out);
+    let result = if input.buffer < TREE_BUFFER {
+        same("answer", &answer, &[11, 0, 0]).and_then(|()| same_buffer(&out, &before))
+    } else {
+        judge(input, answer, &out, &before)
+    };
+    let text = numbers("tree", &input.tree) + &numbers("marks", &input.marks) + &format!("buffer {}\n", input.buffer);
+    report.count(format!("gather: {name}"));
+    report.count(format!("gather: answered {}", answer[0]));
+    report.saved_test(&format!("gather, {name}"), result, &[("txt", text.as_bytes())]);
+    answer[0]
+}
+
+/// Marks of the tree, or now and then wrong ones.
+fn marks(tree: &[u16], random: &mut Random) -> Vec<u16> {
+    let mut marks = groups(tree);
+    random.shuffle(&mut marks);
+    marks.truncate(random.between(1, marks.len().max(1)));
+    match random.below(40) {
+        0 => marks.clear(),
+        1 => marks.extend(marks.clone()),
+        2 => marks.push(random.between(0, 65535) as u16),
+        3 => marks.insert(0, UNION),
+        4 => marks = vec![1; 100],
+        _ => {}
+    }
+    marks
+}
+
+fn random_gathering(random: &mut Random) -> Input {
+    let most = random.pick(&[2, 3, 4, 6, 8, 8, 10]);
+    let tree = list(most, random);
+    let marks = marks(&tree, random);
+    Input { tree, marks, buffer: buffer_length(TREE_BUFFER, random) }
+}
+
+/// Any table that a gathered tree has, given as a tree that is not gathered.
+fn table_gathering(random: &mut Random) -> Input {
+    let count = random.between(2, 8);
+    let marked = random.between(1, count - 1);
+    let groups = some_groups(count, random);
+    let tree = table_tree(&gatherable_table(count, marked, random), &groups);
+    Input { tree, marks: groups[..marked].to_vec(), buffer: TREE_BUFFER }
+}
+
+/// A tree of 8,191 nodes, at random or gathered already.
+fn largest(random: &mut Random) -> Input {
+    let groups = some_groups(8, random);
+    let (marks, others) = groups.split_at(random.between(1, 7));
+    let shape = Shape::any(random);
+    let leaves = random.between(1, MOST_LEAVES - 1);
+    let tree = if random.one_in(2) {
+        shape.tree(MOST_LEAVES, &groups, random)
+    } else {
+        let (holder, rest) = (shape.tree(leaves, marks, random), shape.tree(MOST_LEAVES - leaves, others, random));
+        let operator = random.pick(&[Operator::Union, Operator::Difference]);
+        if random.one_in(2) {
+            join(&holder, &rest, operator)
+        } else {
+            join(&rest, &holder, operator)
+        }
+    };
+    Input { tree, marks: marks.to_vec(), buffer: TREE_BUFFER }
+}
+
+fn fault_order(report: &mut Report) {
+    let faults: [Fault<Input>; 6] = [
+        (11, |input| input.buffer = TREE_BUFFER - 1),
+        (12, |input| input.tree.push(UNION)),
+        (17, |input| (11..=15).for_each(|group| input.tree.extend([group, UNION]))),
+        (18, |input| input.marks.push(input.marks[0])),
+        (18, |input| input.marks.push(10)),
+        (18, |input| input.marks.clear()),
+    ];
+    let (u, d) = (UNION, DIFFERENCE);
+    for (none, tree) in [(19, [1, 3, d, 2, 4, d, u]), (0, [1, 2, d, 3, 4, d, u])] {
+        let fresh = || Input { tree: tree.to_vec(), marks: vec![1, 2], buffer: TREE_BUFFER };
+        for (number, input) in choices(&faults, none, fresh) {
+            let answered = compare("order of faults", &input, report);
+            report.test("gather, order of faults by hand", same("number", &answered, &number));
+        }
+    }
+}
+
+/// 01's samples (vii) to (x): the tree, the marks and whether it is gathered.
+fn samples(report: &mut Report) {
+    let (u, d) = (UNION, DIFFERENCE);
+    let samples: [(&[u16], &[u16], u32); 4] = [
+        (&[1, 3, d, 2, 4, d, u], &[1, 2], 19),
+        (&[1, 3, d, 2, 3, d, u], &[1, 2], 0),
+        (&[1, 2, d, 2, 1, d, u], &[1], 19),
+        (&[1, 1, 2, d, d], &[1], 0),
+    ];
+    for (tree, marks, number) in samples {
+        let answered =
+            compare("sample", &Input { tree: tree.to_vec(), marks: marks.to_vec(), buffer: TREE_BUFFER }, report);
+        report.test("gather, sample by hand", same("number", &answered, &number));
+    }
+}
+
+pub fn run(report: &mut Report) {
+    let mut random = Random::new(4);
+    for _ in 0..4000 {
+        compare("random", &random_gathering(&mut random), report);
+    }
+    for _ in 0..2000 {
+        compare("table", &table_gathering(&mut random), report);
+    }
+    for _ in 0..60 {
+        compare("largest", &largest(&mut random), report);
+    }
+    samples(report);
+    fault_order(report);
+}

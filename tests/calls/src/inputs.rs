@@ -1,0 +1,105 @@
+//! Random arguments, buffers and what is saved of a failing call.
+
+use reference::random::Random;
+use reference::shape::{some_groups, Shape};
+use reference::tree::{DIFFERENCE, MAXIMUM_NODES, UNION};
+
+/// The leaves of a tree of the most nodes.
+pub const MOST_LEAVES: usize = MAXIMUM_NODES.div_ceil(2);
+
+/// A buffer with something in every place.
+pub fn filled(length: usize) -> Vec<u16> {
+    (0..length).map(|at| (at as u16).wrapping_mul(40503) | 1).collect()
+}
+
+/// Mostly few leaves, at times as many as a tree may have.
+pub fn leaves(random: &mut Random) -> usize {
+    let most = random.pick(&[3, 8, 8, 20, 20, 60, 300, MOST_LEAVES]);
+    random.between(1, most)
+}
+
+/// A tree over at most `most_groups` groups.
+pub fn tree(most_groups: usize, random: &mut Random) -> Vec<u16> {
+    let count = random.between(1, most_groups);
+    let groups = some_groups(count, random);
+    let leaves = leaves(random);
+    Shape::any(random).tree(leaves, &groups, random)
+}
+
+/// A chain of 8,191 nodes to the left or to the right, each leaf another group.
+pub fn chain(operator: u16, to_the_left: bool) -> Vec<u16> {
+    let leaves = 1..=MOST_LEAVES as u16;
+    if to_the_left {
+        leaves
+            .flat_map(|leaf| [leaf, operator])
+            .enumerate()
+            .filter(|&(at, _)| at != 1)
+            .map(|(_, number)| number)
+            .collect()
+    } else {
+        leaves.chain(vec![operator; MOST_LEAVES - 1]).collect()
+    }
+}
+
+/// A list that may not be a tree any more.
+pub fn damaged(mut list: Vec<u16>, random: &mut Random) -> Vec<u16> {
+    let at = random.below(list.len());
+    let number = random.pick(&[0, 1, 9999, 10000, 65000, UNION, DIFFERENCE, 65003, 65535]);
+    match random.below(6) {
+        0 => list.truncate(at),
+        1 => list.insert(at, number),
+        2 => {
+            list.remove(at);
+        }
+        3 => list.extend([1, 2]),
+        4 => list.extend(vec![1; MAXIMUM_NODES]),
+        _ => list[at] = number,
+    }
+    list
+}
+
+/// A tree, or now and then a damaged one.
+pub fn list(most_groups: usize, random: &mut Random) -> Vec<u16> {
+    let tree = tree(most_groups, random);
+    if random.one_in(6) {
+        damaged(tree, random)
+    } else {
+        tree
+    }
+}
+
+/// A buffer's length: mostly enough, at times not, at times more.
+pub fn buffer_length(least: usize, random: &mut Random) -> usize {
+    if random.one_in(10) {
+        random.pick(&[0, 1, least / 2, least - 1])
+    } else {
+        least + random.pick(&[0, 0, 1, 1000])
+    }
+}
+
+/// Numbers as a line of text, for saving.
+pub fn numbers(name: &str, numbers: &[u16]) -> String {
+    let text: Vec<String> = numbers.iter().map(u16::to_string).collect();
+    format!("{name} ({}): {}\n", numbers.len(), text.join(" "))
+}
+
+/// The answer's number, and all numbers beside the expected ones.
+pub fn same<Numbers: PartialEq + std::fmt::Debug>(
+    name: &str,
+    given: &Numbers,
+    expected: &Numbers,
+) -> Result<(), String> {
+    if given == expected {
+        Ok(())
+    } else {
+        Err(format!("{name}: {given:?} where {expected:?} is due"))
+    }
+}
+
+/// A lent buffer afterwards, whole, beside what it should hold.
+pub fn same_buffer<Number: PartialEq>(given: &[Number], expected: &[Number]) -> Result<(), String> {
+    match given.iter().zip(expected).position(|(given, expected)| given != expected) {
+        None => Ok(()),
+        Some(at) => Err(format!("the buffer differs at {at}")),
+    }
+}

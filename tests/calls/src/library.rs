@@ -1,0 +1,102 @@
+//! The boundary: a slice passes as a pointer and then a length, a number as itself.
+
+use reference::calls::{EncodeAnswer, GatherAnswer, LiftAnswer};
+
+mod exported {
+    extern "C" {
+        pub fn lift_call(
+            tree: *const u16,
+            tree_length: usize,
+            position: usize,
+            levels: usize,
+            out: *mut u16,
+            out_length: usize,
+            answer: *mut u32,
+            answer_length: usize,
+        );
+        pub fn gather_call(
+            tree: *const u16,
+            tree_length: usize,
+            marks: *const u16,
+            marks_length: usize,
+            out: *mut u16,
+            out_length: usize,
+            answer: *mut u32,
+            answer_length: usize,
+        );
+        pub fn encode_call(
+            tree: *const u16,
+            tree_length: usize,
+            out: *mut u16,
+            out_length: usize,
+            answer: *mut u32,
+            answer_length: usize,
+        );
+        pub fn play_call(
+            code: *const u16,
+            code_length: usize,
+            patch: *const u16,
+            patch_length: usize,
+            lamps: *mut u8,
+            lamps_length: usize,
+        ) -> u16;
+    }
+}
+
+/// What an answer's numbers hold before the call, so that an unwritten one is seen.
+const UNWRITTEN: u32 = 0xdead_beef;
+
+pub fn lift(tree: &[u16], position: usize, levels: usize, out: &mut [u16]) -> LiftAnswer {
+    let mut answer = [UNWRITTEN; 4];
+    unsafe {
+        exported::lift_call(
+            tree.as_ptr(),
+            tree.len(),
+            position,
+            levels,
+            out.as_mut_ptr(),
+            out.len(),
+            answer.as_mut_ptr(),
+            answer.len(),
+        );
+    }
+    answer
+}
+
+pub fn gather(tree: &[u16], marks: &[u16], out: &mut [u16]) -> GatherAnswer {
+    let mut answer = [UNWRITTEN; 3];
+    unsafe {
+        exported::gather_call(
+            tree.as_ptr(),
+            tree.len(),
+            marks.as_ptr(),
+            marks.len(),
+            out.as_mut_ptr(),
+            out.len(),
+            answer.as_mut_ptr(),
+            answer.len(),
+        );
+    }
+    answer
+}
+
+pub fn encode(tree: &[u16], out: &mut [u16]) -> EncodeAnswer {
+    let mut answer = [UNWRITTEN; 2];
+    unsafe {
+        exported::encode_call(
+            tree.as_ptr(),
+            tree.len(),
+            out.as_mut_ptr(),
+            out.len(),
+            answer.as_mut_ptr(),
+            answer.len(),
+        );
+    }
+    answer
+}
+
+pub fn play(code: &[u16], patch: &[u16], lamps: &mut [u8]) -> u16 {
+    unsafe {
+        exported::play_call(code.as_ptr(), code.len(), patch.as_ptr(), patch.len(), lamps.as_mut_ptr(), lamps.len())
+    }
+}

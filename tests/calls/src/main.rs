@@ -1,0 +1,52 @@
+//! Tries the static library's calls beside the reference.
+//!
+//! calls TARGET    TARGET: a folder to which failing inputs are saved
+
+mod encode_tests;
+mod faults;
+mod gather_tests;
+mod inputs;
+mod lift_tests;
+mod play_tests;
+
+use reference::report::Report;
+use std::path::PathBuf;
+use std::process::ExitCode;
+
+/// How often each number must have been answered.
+fn least_counts() -> Vec<(String, usize)> {
+    let numbers: [(&str, &[usize]); 4] = [
+        ("lift", &[0, 11, 12, 13, 14, 15, 16]),
+        ("gather", &[0, 11, 12, 17, 18, 19]),
+        ("encode", &[0, 12, 20]),
+        ("play", &[0, 21, 22, 23, 24, 25]),
+    ];
+    let counts = |(call, numbers): (&str, &[usize])| -> Vec<(String, usize)> {
+        numbers.iter().map(|number| (format!("{call}: answered {number}"), 30)).collect()
+    };
+    numbers.into_iter().flat_map(counts).collect()
+}
+
+fn main() -> ExitCode {
+    let Some(target) = std::env::args().nth(1) else {
+        eprintln!("usage: calls TARGET");
+        return ExitCode::FAILURE;
+    };
+    let mut report = Report::new(PathBuf::from(target));
+    let tests: [(&str, fn(&mut Report)); 4] = [
+        ("lift", lift_tests::run),
+        ("gather", gather_tests::run),
+        ("encode", encode_tests::run),
+        ("play", play_tests::run),
+    ];
+    for (name, run) in tests {
+        run(&mut report);
+        println!("calls: {name} tried");
+    }
+    report.categories(&least_counts());
+    if report.finish("calls") {
+        ExitCode::SUCCESS
+    } else {
+        ExitCode::FAILURE
+    }
+}

@@ -1,0 +1,151 @@
+//! Sheets whose keys were worked out by hand from 01.
+
+/// What a sheet's key must be.
+#[derive(Clone)]
+pub enum Expected {
+    /// These bytes.
+    Key(Vec<u8>),
+    /// Gathered by a tree that 01 leaves free.
+    Gathered,
+    /// What the reference says.
+    Reference,
+}
+
+pub struct Case {
+    pub name: String,
+    pub bytes: Vec<u8>,
+    pub expected: Expected,
+}
+
+/// Lines end in `/` and fields are parted by a space, as 01 writes its example; `_` is a space.
+pub fn text(line: &str) -> Vec<u8> {
+    line.bytes()
+        .map(|byte| match byte {
+            b'/' => b'\n',
+            b' ' => b'\t',
+            b'_' => b' ',
+            other => other,
+        })
+        .collect()
+}
+
+const REFUSED: [(&str, &str); 62] = [
+    // The end, and what comes after it.
+    ("", "NO 10 1/"),
+    ("G 1/", "NO 10 2/"),
+    ("G 1/G 2/", "NO 10 3/"),
+    ("G 1/L 0 1/", "NO 10 3/"),
+    ("G 1/K 1/", "NO 10 3/"),
+    ("G 1/E", "NO 2 2/"),
+    ("G 1", "NO 2 1/"),
+    ("G 1/E/G 1", "NO 2 3/"),
+    ("G 1/E/E", "NO 2 3/"),
+    ("G 1/E/ ", "NO 2 3/"),
+    ("G 1/E/G 1/", "NO 3 3/"),
+    ("G 1/E/E/", "NO 3 3/"),
+    ("G 1/E/K 2/", "NO 3 3/"),
+    ("G 1/E/X/", "NO 2 3/"),
+    ("G 1/E//", "NO 2 3/"),
+    // Order of kinds.
+    ("G 1/L 0 1/G 1/E/", "NO 3 3/"),
+    ("G 1/L 0 1/U/E/", "NO 3 3/"),
+    ("G 1/K 1/L 0 1/E/", "NO 3 3/"),
+    ("G 1/K 1/D/", "NO 3 3/"),
+    ("G 1/L 0 1/G 0/", "NO 2 3/"),
+    // Tree lines that do not make one tree.
+    ("E/", "NO 7 1/"),
+    ("L 0 1/E/", "NO 7 1/"),
+    ("K 1/E/", "NO 7 1/"),
+    ("G 1/G 2/E/", "NO 7 3/"),
+    ("G 1/G 2/L 0 1/E/", "NO 7 3/"),
+    ("G 1/G 2/K 3/E/", "NO 7 3/"),
+    ("G 1/G 2/X/", "NO 2 3/"),
+    ("E/X/", "NO 7 1/"),
+    // Operators without operands.
+    ("U/", "NO 4 1/"),
+    ("D/E/", "NO 4 1/"),
+    ("G 1/D/E/", "NO 4 2/"),
+    ("G 1/G 2/U/U/E/", "NO 4 4/"),
+    // Groups and marks.
+    ("G 1/G 2/G 3/G 4/G 5/G 6/G 7/G 8/G 9/", "NO 6 9/"),
+    ("G 1/K 2/E/", "NO 8 2/"),
+    ("G 1/K 2/K 2/E/", "NO 8 2/"),
+    ("G 1/K 1/K 1/E/", "NO 9 3/"),
+    ("G 1/G 2/U/K 2/K 1/K 2/E/", "NO 9 6/"),
+    // Fields.
+    ("G 0/E/", "NO 2 1/"),
+    ("G 01/E/", "NO 2 1/"),
+    ("G 10000/E/", "NO 2 1/"),
+    ("G 65537/E/", "NO 2 1/"),
+    ("G 18446744073709551617/E/", "NO 2 1/"),
+    ("G _1/E/", "NO 2 1/"),
+    ("G 1_/E/", "NO 2 1/"),
+    ("G_1/E/", "NO 2 1/"),
+    ("G 1\r/E/", "NO 2 1/"),
+    ("G /E/", "NO 2 1/"),
+    ("G/E/", "NO 2 1/"),
+    ("G 1 /E/", "NO 2 1/"),
+    (" G 1/E/", "NO 2 1/"),
+    ("g 1/E/", "NO 2 1/"),
+    ("G +1/E/", "NO 2 1/"),
+    ("G 1\0/E/", "NO 2 1/"),
+    ("G 1/K 0/E/", "NO 2 2/"),
+    ("G 1/K 10000/E/", "NO 2 2/"),
+    ("G 1/L 8191 1/E/", "NO 2 2/"),
+    ("G 1/L 0 100/E/", "NO 2 2/"),
+    ("G 1/L 0 0/E/", "NO 2 2/"),
+    ("G 1/L 0/E/", "NO 2 2/"),
+    ("G 1/L 0 1 1/E/", "NO 2 2/"),
+    ("G 1/L 00 1/E/", "NO 2 2/"),
+    ("G 1/E /", "NO 2 2/"),
+];
+
+/// 01's example and its samples; where no key stands the gathered tree is free.
+const SAMPLES: [(&str, &str); 14] = [
+    (
+        "G 1/G 2/D/G 3/D/G 4/U/G 5/D/L 0 2/K 2/K 3/E/",
+        "LIFT 0 0 2/HELD 0 1 3/LOAD 0 2/LOAD 1 3/ADD 0 0 1/LOAD 1 5/ADD 0 0 1/LOAD 1 1/CUT 0 1 0/LOAD 1 4/LOAD 2 5/CUT 1 1 2/ADD 0 0 1/",
+    ),
+    ("G 1/G 2/D/L 0 1/E/", "LIFT 14 0 0/LOAD 0 1/LOAD 1 2/CUT 0 0 1/"),
+    ("G 1/G 2/D/G 3/U/L 0 1/E/", "LIFT 15 0 0/LOAD 0 1/LOAD 1 2/CUT 0 0 1/LOAD 1 3/ADD 0 0 1/"),
+    (
+        "G 5/G 4/G 3/G 2/G 1/D/D/D/D/L 4 1/E/",
+        "LIFT 15 4 0/LOAD 0 2/LOAD 1 1/CUT 0 0 1/LOAD 1 3/CUT 0 1 0/LOAD 1 4/CUT 0 1 0/LOAD 1 5/CUT 0 1 0/",
+    ),
+    (
+        "G 3/G 2/G 1/D/D/G 4/D/L 2 1/E/",
+        "LIFT 0 4 1/LOAD 0 3/LOAD 1 4/CUT 0 0 1/LOAD 1 2/LOAD 2 1/CUT 1 1 2/CUT 0 0 1/",
+    ),
+    (
+        "G 3/G 2/G 1/D/D/G 4/U/G 5/U/L 2 1/E/",
+        "LIFT 0 5 2/LOAD 0 5/LOAD 1 4/ADD 0 0 1/LOAD 1 2/LOAD 2 1/CUT 1 1 2/LOAD 2 3/CUT 1 2 1/ADD 0 0 1/",
+    ),
+    ("G 1/G 3/D/G 2/G 4/D/U/K 1/K 2/E/", "HELD 19/"),
+    ("G 1/G 3/D/G 2/G 3/D/U/K 1/K 2/E/", ""),
+    ("G 1/G 2/D/G 2/G 1/D/U/K 1/E/", "HELD 19/"),
+    ("G 1/G 1/G 2/D/D/K 1/E/", ""),
+    // The least and the greatest numbers.
+    ("G 9999/E/", "LOAD 0 9999/"),
+    ("G 1/K 1/E/", "HELD 0 1 1/LOAD 0 1/"),
+    ("G 1/L 0 99/E/", "LIFT 14 0 0/LOAD 0 1/"),
+    ("G 1/L 8190 1/L 1 1/E/", "LIFT 13 8190 0/LIFT 13 1 0/LOAD 0 1/"),
+];
+
+pub fn cases() -> Vec<Case> {
+    let all = REFUSED.iter().chain(&SAMPLES);
+    let mut cases: Vec<Case> = all
+        .map(|&(sheet, key)| Case {
+            name: format!("case {sheet:?}"),
+            bytes: text(sheet),
+            expected: if key.is_empty() { Expected::Gathered } else { Expected::Key(text(key)) },
+        })
+        .collect();
+    for byte in [b'/', 127, 128, 255] {
+        cases.push(Case {
+            name: format!("case of byte {byte}"),
+            bytes: [b"G\t1\n", &[byte][..], b"\nE\n"].concat(),
+            expected: Expected::Key(text("NO 2 2/")),
+        });
+    }
+    cases
+}

@@ -1,0 +1,275 @@
+//! The random sheets: the same number and seed always give the same sheet.
+
+use crate::damage::damaged;
+use crate::growth::grown_to_limit;
+use reference::gather::{gather, holder};
+use reference::lift::lift;
+use reference::random::Random;
+use reference::refusal::NOT_GATHERABLE;
+use reference::shape::{difference, gatherable_table, join, levels_of_nodes, some_groups, table_tree, union, Shape};
+use reference::sheet::{Sheet, SHEET_NODES};
+use reference::tree::{groups, Node, Nodes, Operator, DIFFERENCE, UNION};
+
+/// A kind of sheet and how many of a hundred are of it.
+type Kind = (&'static str, usize, fn(&mut Random) -> Vec<u8>);
+
+pub const KINDS: [Kind; 14] = [
+    ("plain", 5, |random| plain(random).print()),
+    ("lifted", 14, |random| lifted(random).print()),
+    ("nested differences lifted", 10, |random| nested(random).print()),
+    ("marked", 6, |random| marked(random).print()),
+    ("mostly not gatherable", 8, |random| not_gatherable(random).print()),
+    ("few groups marked", 10, |random| few_groups(random).print()),
+    ("gathered", 6, |random| gathered(random).print()),
+    ("gathered and distorted", 9, |random| distorted(random).print()),
+    ("gatherable table", 5, |random| gatherable(random).print()),
+    ("lifted and marked", 9, |random| lifted_and_marked(random).print()),
+    ("grown to the node limit", 1, |random| grown(random).print()),
+    ("one fault", 4, one_fault),
+    ("damaged", 11, |random| damaged(whole(random), random)),
+    ("noise", 2, noise),
+];
+
+/// The sheet of a number: its kind and its bytes.
+pub fn random_sheet(number: u64, seed: u64) -> (&'static str, Vec<u8>) {
+    let mut random = Random::new(seed.wrapping_mul(1_000_003).wrapping_add(number));
+    random.next();
+    let mut choice = number as usize % 100;
+    for (name, share, make) in KINDS {
+        if choice < share {
+            return (name, make(&mut random));
+        }
+        choice -= share;
+    }
+    unreachable!("the shares make a hundred")
+}
+
+fn unmarked(tree: Vec<u16>) -> Sheet {
+    Sheet { tree, ..Sheet::default() }
+}
+
+/// Marks some of the tree's groups, in any order.
+fn mark_some(sheet: &mut Sheet, random: &mut Random) {
+    sheet.marks = groups(&sheet.tree);
+    random.shuffle(&mut sheet.marks);
+    let count = random.between(1, sheet.marks.len());
+    sheet.marks.truncate(count);
+}
+
+/// Mostly small numbers of leaves, at times as many as a sheet allows.
+fn leaves(random: &mut Random) -> usize {
+    let most = random.pick(&[4, 8, 8, 16, 16, 40, 120, SHEET_NODES.div_ceil(2)]);
+    random.between(1, most)
+}
+
+fn plain(random: &mut Random) -> Sheet {
+    let count = random.between(1, 8);
+    let groups = some_groups(count, random);
+    let leaves = leaves(random);
+    unmarked(Shape::any(random).tree(leaves, &groups, random))
+}
+
+/// A lift that is likely to be done; now and then any position and levels.
+fn some_lift(tree: &[u16], random: &mut Random) -> (usize, usize) {
+    if random.one_in(12) {
+        return (random.between(0, 8190), random.between(1, 99));
+    }
+    let levels = levels_of_nodes(tree);
+    let mut position = random.below(tree.len());
+    for _ in 0..6 {
+        let other = random.below(tree.len());
+        if levels[other] > levels[position] {
+            position = other;
+        }
+    }
+    let most = if random.one_in(8) { levels[position] } else { levels[position].saturating_sub(1) };
+    let most = if random.one_in(2) { most.min(3) } else { most };
+    (position, random.between(1, most.clamp(1, 99)))
+}
+
+/// Adds lifts, each chosen by the tree that the ones before it leave; `tree` is what the sheet's own leave.
+fn add_lifts(sheet: &mut Sheet, mut tree: Vec<u16>, count: usize, random: &mut Random) {
+    for _ in 0..count {
+        let (position, levels) = some_lift(&tree, random);
+        sheet.lifts.push((position, levels));
+        if let Ok(lifted) = lift(&tree, position, levels) {
+            tree = lifted.tree;
+        }
+    }
+}
+
+fn lifted(random: &mut Random) -> Sheet {
+    let mut sheet = plain(random);
+    let count = random.between(1, 8);
+    let tree = sheet.tree.clone();
+    add_lifts(&mut sheet, tree, count, random);
+    sheet
+}
+
+fn nested(random: &mut Random) -> Sheet {
+    let count = random.between(2, 8);
+    let groups = some_groups(count, random);
+    let leaves = random.between(4, 60);
+    let tree = Shape::nested_differences().tree(leaves, &groups, random);
+    let mut sheet = unmarked(tree.clone());
+    let count = random.between(1, 6);
+    add_lifts(&mut sheet, tree, count, random);
+    sheet
+}
+
+fn marked(random: &mut Random) -> Sheet {
+    let mut sheet = plain(random);
+    mark_some(&mut sheet, random);
+    sheet
+}
+
+/// Few marks among many groups, mostly such that no tree gathers them.
+fn not_gatherable(random: &mut Random) -> Sheet {
+    let mut sheet = Sheet::default();
+    for _ in 0..8 {
+        let count = random.between(2, 8);
+        let groups = some_groups(count, random);
+        let leaves = random.between(count, 30);
+        sheet.tree = Shape::any(random).tree(leaves, &groups, random);
+        mark_some(&mut sheet, random);
+        sheet.marks.truncate(3);
+        if gather(&sheet.tree, &sheet.marks) == Err(NOT_GATHERABLE) {
+            break;
+        }
+    }
+    sheet
+}
+
+fn few_groups(random: &mut Random) -> Sheet {
+    let count = random.between(2, 3);
+    let groups = some_groups(count, random);
+    let leaves = random.between(2, 12);
+    let mut sheet = unmarked(Shape::any(random).tree(leaves, &groups, random));
+    mark_some(&mut sheet, random);
+    sheet
+}
+
+fn lifted_and_marked(random: &mut Random) -> Sheet {
+    let mut sheet = if random.one_in(2) { lifted(random) } else { nested(random) };
+    mark_some(&mut sheet, random);
+    sheet
+}
+
+/// A holder over marked groups inside frames of unmarked ones.
+fn gathered(random: &mut Random) -> Sheet {
+    let count = random.between(2, 8);
+    let all = some_groups(count, random);
+    let (marked, others) = all.split_at(random.between(1, count - 1));
+    let leaves = random.between(1, 5);
+    let mut tree = Shape::any(random).tree(leaves, marked, random);
+    for _ in 0..random.between(1, 5) {
+        let leaves = random.between(1, 4);
+        let other = Shape::any(random).tree(leaves, others, random);
+        let operator = random.pick(&[Operator::Union, Operator::Difference]);
+        tree = if random.one_in(2) { join(&tree, &other, operator) } else { join(&other, &tree, operator) };
+    }
+    let mut marks: Vec<u16> = groups(&tree).into_iter().filter(|group| marked.contains(group)).collect();
+    random.shuffle(&mut marks);
+    Sheet { tree, marks, ..Sheet::default() }
+}
+
+/// An equivalent tree, written differently.
+fn rewritten(nodes: &Nodes, node: usize, random: &mut Random) -> Vec<u16> {
+    let Node::Branch { operator, left, right } = nodes.node(node) else { return nodes.postfix(node) };
+    let (x, y) = (rewritten(nodes, left, random), rewritten(nodes, right, random));
+    let operands = |node: usize, wanted: Operator| match nodes.node(node) {
+        Node::Branch { operator, left, right } if operator == wanted => {
+            Some((nodes.postfix(left), nodes.postfix(right)))
+        }
+        _ => None,
+    };
+    match (operator, random.below(4)) {
+        (Operator::Union, 0) => union(&y, &x),
+        (Operator::Union, 1) => union(&x, &difference(&y, &x)),
+        (Operator::Difference, 0) => difference(&x, &difference(&x, &difference(&x, &y))),
+        (Operator::Difference, 1 | 2) => match operands(left, Operator::Union) {
+            Some((first, second)) => union(&difference(&first, &y), &difference(&second, &y)),
+            None => match operands(right, Operator::Union) {
+                Some((first, second)) => difference(&difference(&x, &first), &second),
+                None => difference(&x, &y),
+            },
+        },
+        _ => join(&x, &y, operator),
+    }
+}
+
+/// A gathered tree rewritten until it is not gathered any more (or too large to go on).
+fn distorted(random: &mut Random) -> Sheet {
+    let mut sheet = gathered(random);
+    for _ in 0..6 {
+        let nodes = Nodes::parse(&sheet.tree).expect("a tree");
+        if holder(&nodes, &sheet.marks).is_none() {
+            break;
+        }
+        let tree = rewritten(&nodes, nodes.root(), random);
+        if tree.len() > SHEET_NODES {
+            break;
+        }
+        sheet.tree = tree;
+    }
+    sheet
+}
+
+/// Any function that a gathered tree has, given by its table.
+fn gatherable(random: &mut Random) -> Sheet {
+    loop {
+        let count = random.between(2, 6);
+        let marked = random.between(1, count - 1);
+        let groups = some_groups(count, random);
+        let tree = table_tree(&gatherable_table(count, marked, random), &groups);
+        if tree.len() <= SHEET_NODES {
+            return Sheet { tree, lifts: Vec::new(), marks: groups[..marked].to_vec() };
+        }
+    }
+}
+
+/// A sheet whose lifts come to the node limit, and more lifts there.
+fn grown(random: &mut Random) -> Sheet {
+    let (mut sheet, tree) = grown_to_limit(random);
+    let count = random.between(0, 3);
+    add_lifts(&mut sheet, tree, count, random);
+    if random.one_in(3) {
+        mark_some(&mut sheet, random);
+    }
+    sheet
+}
+
+/// A whole sheet with one line too many: a ninth group, a 1,024th node, an operator without
+/// operands, a mark that is not in the tree, or a mark twice.
+fn one_fault(random: &mut Random) -> Vec<u8> {
+    let groups = some_groups(9, random);
+    let mut sheet = unmarked(Shape::any(random).tree(SHEET_NODES.div_ceil(2), &groups[..8], random));
+    mark_some(&mut sheet, random);
+    match random.below(5) {
+        0 => {
+            sheet.tree = (0..20).map(|_| random.pick(&groups)).chain(groups.clone()).collect();
+        }
+        1 => sheet.tree.push(random.pick(&groups)),
+        2 => sheet.tree.truncate(random.below(40)),
+        3 => sheet.marks.push(groups[8]),
+        _ => sheet.marks.push(sheet.marks[0]),
+    }
+    if random.one_in(2) {
+        sheet.tree.push(random.pick(&[UNION, DIFFERENCE]));
+    }
+    sheet.print()
+}
+
+/// Any sheet to be damaged.
+fn whole(random: &mut Random) -> Vec<u8> {
+    let make: fn(&mut Random) -> Sheet = random.pick(&[plain, lifted, marked, lifted_and_marked, gathered]);
+    make(random).print()
+}
+
+/// Bytes that sheets are made of, in no order, and at times any bytes.
+fn noise(random: &mut Random) -> Vec<u8> {
+    let signs = b"GUDLKE\t\n\t\n\t\n0123456789";
+    let any = random.one_in(3);
+    let count = random.below(60);
+    (0..count).map(|_| if any { random.next() as u8 } else { random.pick(signs) }).collect()
+}

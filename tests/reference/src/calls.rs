@@ -1,0 +1,69 @@
+//! The four calls with lent buffers: the answer as numbers, and the buffer as 01 leaves it.
+
+use crate::coder::{encode, INSTRUCTION_NUMBERS};
+use crate::gather::gather;
+use crate::lift::lift;
+use crate::player::{play, LAMP_BYTES};
+use crate::refusal::{Refusal, SHORT_CODE_BUFFER, SHORT_TREE_BUFFER, UNDER_64_BYTES};
+use crate::tree::MAXIMUM_NODES;
+
+/// The least buffers of the calls.
+pub const TREE_BUFFER: usize = MAXIMUM_NODES;
+pub const CODE_BUFFER: usize = MAXIMUM_NODES * INSTRUCTION_NUMBERS;
+
+/// Number, length, position, looks; all but the number are 0 when refused.
+pub type LiftAnswer = [u32; 4];
+/// Number, length, holder's position; all but the number are 0 when refused.
+pub type GatherAnswer = [u32; 3];
+/// Number, count of instructions; the count is 0 when refused.
+pub type EncodeAnswer = [u32; 2];
+
+/// Writes the result of a call whose buffer must hold `least` numbers.
+fn written<T>(
+    out: &mut [u16],
+    least: usize,
+    short: Refusal,
+    call: impl FnOnce() -> Result<(Vec<u16>, T), Refusal>,
+) -> Result<(u32, T), Refusal> {
+    if out.len() < least {
+        return Err(short);
+    }
+    let (numbers, rest) = call()?;
+    out[..numbers.len()].copy_from_slice(&numbers);
+    Ok((numbers.len() as u32, rest))
+}
+
+pub fn lift_call(tree: &[u16], position: usize, levels: usize, out: &mut [u16]) -> LiftAnswer {
+    let call = || lift(tree, position, levels).map(|lifted| (lifted.tree, (lifted.position, lifted.looks)));
+    match written(out, TREE_BUFFER, SHORT_TREE_BUFFER, call) {
+        Ok((length, (position, looks))) => [0, length, position as u32, looks as u32],
+        Err(number) => [number.into(), 0, 0, 0],
+    }
+}
+
+pub fn gather_call(tree: &[u16], marks: &[u16], out: &mut [u16]) -> GatherAnswer {
+    match written(out, TREE_BUFFER, SHORT_TREE_BUFFER, || gather(tree, marks)) {
+        Ok((length, holder)) => [0, length, holder as u32],
+        Err(number) => [number.into(), 0, 0],
+    }
+}
+
+pub fn encode_call(tree: &[u16], out: &mut [u16]) -> EncodeAnswer {
+    match written(out, CODE_BUFFER, SHORT_CODE_BUFFER, || Ok((encode(tree)?, ()))) {
+        Ok((length, ())) => [0, length / INSTRUCTION_NUMBERS as u32],
+        Err(number) => [number.into(), 0],
+    }
+}
+
+pub fn play_call(code: &[u16], patch: &[u16], lamps: &mut [u8]) -> Refusal {
+    if lamps.len() < LAMP_BYTES {
+        return UNDER_64_BYTES;
+    }
+    match play(code, patch) {
+        Ok(lit) => {
+            lamps[..LAMP_BYTES].copy_from_slice(&lit);
+            0
+        }
+        Err(number) => number,
+    }
+}

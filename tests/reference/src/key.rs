@@ -1,0 +1,141 @@
+//! The key (01, "The key program"): made from a sheet, printed, and read back.
+
+use crate::coder::{encode, run, ADD, CUT, INSTRUCTION_NUMBERS, LOAD};
+use crate::gather::gather;
+use crate::lift::{lift, Step};
+use crate::sheet::{read, Fault, Sheet};
+
+#[derive(Debug, Clone, Copy, PartialEq, Eq)]
+pub enum Held {
+    At { first: usize, count: usize },
+    Cannot(u16),
+}
+
+#[derive(Debug, Default, PartialEq, Eq)]
+pub struct Key {
+    /// Number, position and looks.
+    pub lifts: Vec<(usize, usize, usize)>,
+    pub held: Option<Held>,
+    pub code: Vec<u16>,
+}
+
+/// What a sheet's lifts come to.
+pub struct Lifts {
+    /// The tree that they leave.
+    pub tree: Vec<u16>,
+    /// Number, position and looks of each.
+    pub lines: Vec<(usize, usize, usize)>,
+    /// The steps of those that were done.
+    pub steps: Vec<Step>,
+}
+
+pub fn lifts(sheet: &Sheet) -> Lifts {
+    let mut lifts = Lifts { tree: sheet.tree.clone(), lines: Vec::new(), steps: Vec::new() };
+    for &(position, levels) in &sheet.lifts {
+        lifts.lines.push(match lift(&lifts.tree, position, levels) {
+            Ok(lifted) => {
+                lifts.tree = lifted.tree;
+                lifts.steps.extend(lifted.steps);
+                (0, lifted.position, lifted.looks)
+            }
+            Err(number) => (usize::from(number), position, 0),
+        });
+    }
+    lifts
+}
+
+/// The key of a sheet with these marks after its lifts.
+pub fn key(lifts: &Lifts, marks: &[u16]) -> Key {
+    let lines = lifts.lines.clone();
+    if marks.is_empty() {
+        return Key { lifts: lines, held: None, code: encode(&lifts.tree).expect("a tree") };
+    }
+    match gather(&lifts.tree, marks) {
+        Ok((gathered, holder)) => {
+            let (first, count) = run(&gathered, holder);
+            Key { lifts: lines, held: Some(Held::At { first, count }), code: encode(&gathered).expect("a tree") }
+        }
+        Err(number) => Key { lifts: lines, held: Some(Held::Cannot(number)), code: Vec::new() },
+    }
+}
+
+/// The key's bytes for any bytes.
+pub fn key_bytes(bytes: &[u8]) -> Vec<u8> {
+    match read(bytes) {
+        Ok(sheet) => key(&lifts(&sheet), &sheet.marks).print(),
+        Err(fault) => fault.print(),
+    }
+}
+
+fn line(name: &str, numbers: &[usize], bytes: &mut Vec<u8>) {
+    bytes.extend(name.as_bytes());
+    for number in numbers {
+        bytes.push(b'\t');
+        bytes.extend(number.to_string().as_bytes());
+    }
+    bytes.push(b'\n');
+}
+
+impl Fault {
+    pub fn print(&self) -> Vec<u8> {
+        let mut bytes = Vec::new();
+        line("NO", &[usize::from(self.number), self.line], &mut bytes);
+        bytes
+    }
+}
+
+impl Key {
+    pub fn print(&self) -> Vec<u8> {
+        let mut bytes = Vec::new();
+        for &(number, position, looks) in &self.lifts {
+            line("LIFT", &[number, position, looks], &mut bytes);
+        }
+        match self.held {
+            Some(Held::At { first, count }) => line("HELD", &[0, first, count], &mut bytes),
+            Some(Held::Cannot(number)) => line("HELD", &[usize::from(number)], &mut bytes),
+            None => {}
+        }
+        for instruction in self.code.chunks(INSTRUCTION_NUMBERS) {
+            let (name, count) = match instruction[0] {
+                LOAD => ("LOAD", 2),
+                ADD => ("ADD", 3),
+                _ => ("CUT", 3),
+            };
+            let numbers: Vec<usize> = instruction[1..=count].iter().map(|&number| usize::from(number)).collect();
+            line(name, &numbers, &mut bytes);
+        }
+        bytes
+    }
+
+    /// The key that prints as these bytes exactly.
+    pub fn parse(bytes: &[u8]) -> Option<Key> {
+        let mut key = Key::default();
+        for line in std::str::from_utf8(bytes).ok()?.lines() {
+            let mut fields = line.split('\t');
+            let name = fields.next()?;
+            let numbers: Option<Vec<usize>> = fields.map(|field| field.parse().ok()).collect();
+            key.add_line(name, &numbers?)?;
+        }
+        (key.print() == bytes).then_some(key)
+    }
+
+    fn add_line(&mut self, name: &str, numbers: &[usize]) -> Option<()> {
+        match (name, numbers) {
+            ("LIFT", &[number, position, looks]) => self.lifts.push((number, position, looks)),
+            ("HELD", &[0, first, count]) => self.held = Some(Held::At { first, count }),
+            ("HELD", &[number]) => self.held = Some(Held::Cannot(number.try_into().ok()?)),
+            ("LOAD", &[target, group]) => self.add_instruction([LOAD.into(), target, group, 0])?,
+            ("ADD", &[target, left, right]) => self.add_instruction([ADD.into(), target, left, right])?,
+            ("CUT", &[target, left, right]) => self.add_instruction([CUT.into(), target, left, right])?,
+            _ => return None,
+        }
+        Some(())
+    }
+
+    fn add_instruction(&mut self, numbers: [usize; INSTRUCTION_NUMBERS]) -> Option<()> {
+        for number in numbers {
+            self.code.push(number.try_into().ok()?);
+        }
+        Some(())
+    }
+}

@@ -1,0 +1,17 @@
+//! A second implementation of document 01, and the checks that use it.
+
+pub mod calls;
+pub mod check;
+pub mod closure;
+pub mod coder;
+pub mod gather;
+pub mod key;
+pub mod key_check;
+pub mod lift;
+pub mod player;
+pub mod random;
+pub mod refusal;
+pub mod report;
+pub mod shape;
+pub mod sheet;
+pub mod tree;

@@ -1,0 +1,146 @@
+//! Random trees of many shapes, and trees put together by hand.
+
+use crate::random::Random;
+use crate::tree::{Node, Nodes, Operator, DIFFERENCE, UNION};
+
+/// `count` different groups; small and large numbers both occur.
+pub fn some_groups(count: usize, random: &mut Random) -> Vec<u16> {
+    let last = random.pick(&[9, 99, 9999]).max(count);
+    let mut groups = Vec::new();
+    while groups.len() < count {
+        let group = random.between(1, last) as u16;
+        if !groups.contains(&group) {
+            groups.push(group);
+        }
+    }
+    groups
+}
+
+/// How a tree splits its leaves, and how often an operator is a difference, in eighths.
+#[derive(Clone, Copy)]
+pub struct Shape {
+    split: Split,
+    differences: usize,
+}
+
+#[derive(Clone, Copy)]
+enum Split {
+    Left,
+    Right,
+    Even,
+    Any,
+    MostlyLeft,
+    MostlyRight,
+}
+
+impl Shape {
+    pub fn any(random: &mut Random) -> Shape {
+        use Split::*;
+        Shape {
+            split: random.pick(&[Left, Right, Even, Any, Any, MostlyLeft, MostlyRight]),
+            differences: random.pick(&[0, 2, 4, 4, 6, 7, 8]),
+        }
+    }
+
+    /// Any split, both operators alike.
+    pub fn mixed() -> Shape {
+        Shape { split: Split::Any, differences: 4 }
+    }
+
+    /// Long chains of differences that are taken away, with some other node now and then: state 9.
+    pub fn nested_differences() -> Shape {
+        Shape { split: Split::MostlyRight, differences: 7 }
+    }
+
+    fn left_leaves(self, leaves: usize, random: &mut Random) -> usize {
+        match self.split {
+            Split::Left => leaves - 1,
+            Split::Right => 1,
+            Split::Even => leaves / 2,
+            Split::MostlyLeft if !random.one_in(6) => leaves - 1,
+            Split::MostlyRight if !random.one_in(6) => 1,
+            _ => random.between(1, leaves - 1),
+        }
+    }
+
+    fn grow(self, leaves: usize, groups: &[u16], random: &mut Random, tree: &mut Vec<u16>) {
+        if leaves == 1 {
+            tree.push(random.pick(groups));
+            return;
+        }
+        let left = self.left_leaves(leaves, random);
+        self.grow(left, groups, random, tree);
+        self.grow(leaves - left, groups, random, tree);
+        tree.push(if random.below(8) < self.differences { DIFFERENCE } else { UNION });
+    }
+
+    /// A random tree of this shape over some of the groups.
+    pub fn tree(self, leaves: usize, groups: &[u16], random: &mut Random) -> Vec<u16> {
+        let mut tree = Vec::with_capacity(2 * leaves);
+        self.grow(leaves, groups, random, &mut tree);
+        tree
+    }
+}
+
+pub fn join(left: &[u16], right: &[u16], operator: Operator) -> Vec<u16> {
+    [left, right, &[operator.number()]].concat()
+}
+
+pub fn union(left: &[u16], right: &[u16]) -> Vec<u16> {
+    join(left, right, Operator::Union)
+}
+
+pub fn difference(left: &[u16], right: &[u16]) -> Vec<u16> {
+    join(left, right, Operator::Difference)
+}
+
+/// The level of each node of a tree.
+pub fn levels_of_nodes(tree: &[u16]) -> Vec<usize> {
+    let nodes = Nodes::parse(tree).expect("a tree");
+    let mut levels = vec![0; tree.len()];
+    for node in (0..tree.len()).rev() {
+        if let Node::Branch { left, right, .. } = nodes.node(node) {
+            levels[left] = levels[node] + 1;
+            levels[right] = levels[node] + 1;
+        }
+    }
+    levels
+}
+
+/// The tree of one row of a table: in the groups whose bit is 1, not in the others.
+fn row_tree(row: usize, groups: &[u16]) -> Vec<u16> {
+    let (inside, outside): (Vec<usize>, Vec<usize>) = (0..groups.len()).partition(|place| row >> place & 1 == 1);
+    let mut tree = vec![groups[inside[0]]];
+    for &place in &inside[1..] {
+        tree = difference(&[groups[place]], &difference(&[groups[place]], &tree));
+    }
+    outside.iter().fold(tree, |tree, &place| difference(&tree, &[groups[place]]))
+}
+
+/// A tree for the table of a function that is false in row 0: all groups less all groups, and a
+/// tree for each row. It has every group, and is not gathered for any marks but all groups.
+pub fn table_tree(table: &[bool], groups: &[u16]) -> Vec<u16> {
+    let all = groups[1..].iter().fold(vec![groups[0]], |tree, &group| union(&tree, &[group]));
+    let rows = (1..table.len()).filter(|&row| table[row]);
+    rows.fold(difference(&all, &all), |tree, row| union(&tree, &row_tree(row, groups)))
+}
+
+/// A random table over so many groups, marked ones first, in which the varying columns are equal.
+pub fn gatherable_table(groups: usize, marked: usize, random: &mut Random) -> Vec<bool> {
+    let mut column: Vec<bool> = (0..1 << marked).map(|_| random.one_in(2)).collect();
+    column[0] = random.one_in(2);
+    let likely = random.pick(&[2, 3, 8]);
+    let columns = (0..1 << (groups - marked)).map(|filling| match random.below(likely) {
+        0 => vec![filling != 0; 1 << marked],
+        1 => vec![false; 1 << marked],
+        _ if filling == 0 && column[0] => vec![false; 1 << marked],
+        _ => column.clone(),
+    });
+    columns.flatten().collect()
+}
+
+/// An equivalent tree of exactly so many nodes: the first leaf becomes a union of itself.
+pub fn padded(tree: &[u16], nodes: usize) -> Vec<u16> {
+    let times = (nodes - tree.len()) / 2;
+    [&tree[..1], &[tree[0], UNION].repeat(times), &tree[1..]].concat()
+}

@@ -1,0 +1,71 @@
+//! The reference behind the names that the verified static library exports, to try the tests with.
+//! A slice passes as a pointer and then a length.
+
+use reference::calls;
+use std::slice::{from_raw_parts, from_raw_parts_mut};
+
+/// # Safety
+/// Each pointer leads to as many numbers as the length after it says, and no two meet.
+#[no_mangle]
+pub unsafe extern "C" fn lift_call(
+    tree: *const u16,
+    tree_length: usize,
+    position: usize,
+    levels: usize,
+    out: *mut u16,
+    out_length: usize,
+    answer: *mut u32,
+    answer_length: usize,
+) {
+    let (tree, out) = (from_raw_parts(tree, tree_length), from_raw_parts_mut(out, out_length));
+    let numbers = calls::lift_call(tree, position, levels, out);
+    from_raw_parts_mut(answer, answer_length).copy_from_slice(&numbers);
+}
+
+/// # Safety
+/// As for `lift_call`.
+#[no_mangle]
+pub unsafe extern "C" fn gather_call(
+    tree: *const u16,
+    tree_length: usize,
+    marks: *const u16,
+    marks_length: usize,
+    out: *mut u16,
+    out_length: usize,
+    answer: *mut u32,
+    answer_length: usize,
+) {
+    let (tree, marks) = (from_raw_parts(tree, tree_length), from_raw_parts(marks, marks_length));
+    let numbers = calls::gather_call(tree, marks, from_raw_parts_mut(out, out_length));
+    from_raw_parts_mut(answer, answer_length).copy_from_slice(&numbers);
+}
+
+/// # Safety
+/// As for `lift_call`.
+#[no_mangle]
+pub unsafe extern "C" fn encode_call(
+    tree: *const u16,
+    tree_length: usize,
+    out: *mut u16,
+    out_length: usize,
+    answer: *mut u32,
+    answer_length: usize,
+) {
+    let numbers = calls::encode_call(from_raw_parts(tree, tree_length), from_raw_parts_mut(out, out_length));
+    from_raw_parts_mut(answer, answer_length).copy_from_slice(&numbers);
+}
+
+/// # Safety
+/// As for `lift_call`.
+#[no_mangle]
+pub unsafe extern "C" fn play_call(
+    code: *const u16,
+    code_length: usize,
+    patch: *const u16,
+    patch_length: usize,
+    lamps: *mut u8,
+    lamps_length: usize,
+) -> u16 {
+    let (code, patch) = (from_raw_parts(code, code_length), from_raw_parts(patch, patch_length));
+    calls::play_call(code, patch, from_raw_parts_mut(lamps, lamps_length))
+}
