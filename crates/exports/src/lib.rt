@@ -22,10 +22,20 @@ fn store_all(answer: &mut [u32], number: usize, a: usize, b: usize, c: usize) {
 
 // Number, length, position, looks.
 #[no_mangle]
-pub extern "C" fn lift_call(tree: &[u16], position: usize, levels: usize, out: &mut [u16], answer: &mut [u32]) {
+pub extern "C" fn lift_call(
+    tree: &[u16],
+    position: usize,
+    levels: usize,
+    out: &mut [u16],
+    answer: &mut [u32],
+) {
     let lifted = lift::lift(tree, position, levels, out);
     match lifted {
-        Lifted::Done { length, position: place, looks } => store_all(answer, 0, length, place, looks),
+        Lifted::Done {
+            length,
+            position: place,
+            looks,
+        } => store_all(answer, 0, length, place, looks),
         Lifted::Refused(number) => store_all(answer, number as usize, 0, 0, 0),
     }
 }
