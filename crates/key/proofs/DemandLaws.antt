@@ -42,16 +42,6 @@ lights t u e h patch lamps even good long r after p =
 
 -- the code of the gathered tree, where the key says HELD and a run
 module _ (t u : Tree) (e : Equivalent t u) (marks : List ℕ) (first count : ℕ) (is : List Instruction) (some-mark : 1 ≤ length marks) (H : HeldCode u marks first count is) where
-  held-code : CodeOf u marks is
-  held-code = record {
-    tree = H .tree;
-    coded = H .coded;
-    left = λ z. absurd (omega (arith, ap (length {A = ℕ}) z));
-    equivalent = H .equivalent;
-    position = H .position;
-    gathered = λ _. H .gathered;
-  }
-
   held-lights : Lights t is
   held-lights = subst (Lights t) (sym (H .coded)) (lights t (H .tree) (equivalent-trans e (H .equivalent)) (H .most))
 
@@ -62,13 +52,11 @@ module _ (t u : Tree) (e : Equivalent t u) (marks : List ℕ) (first count : ℕ
   code-whole : code (plug (H .gathered .holder) (H .gathered .above)) 0 ≡ is
   code-whole = ap (λ (x : Tree). code x 0) (sym (H .gathered .whole)) ∙ sym (H .coded)
 
-  held-run : HolderRun marks is first count
+  held-run : HolderRun (H .tree) marks is first count
   held-run =
       let h = H .gathered .holder in
       let c = H .gathered .above in
       record {
-        tree = H .tree;
-        coded = H .coded;
         position = H .position;
         gathered = H .gathered;
         firstIs = H .firstIs;
@@ -78,13 +66,21 @@ module _ (t u : Tree) (e : Equivalent t u) (marks : List ℕ) (first count : ℕ
         apart = rw (H .firstIs, H .countIs) (subst (λ (x : List Instruction). LoadsApart (isIn marks) x (runFirst h c) (runCount h c)) code-whole (loads-apart h c (isIn marks) (H .gathered .marked) (H .gathered .others)));
       }
 
+  held-code : CodeOf u marks (heldRun first count) is
+  held-code = record {
+    tree = H .tree;
+    coded = H .coded;
+    left = λ z. absurd (omega (arith, ap (length {A = ℕ}) z));
+    equivalent = H .equivalent;
+    run = λ f c q. let a : first ≡ f = cc in let b : count ≡ c = cc in rw (← a, ← b) held-run;
+  }
+
   held-demand : (ls : List LiftLine) → u ≡ treeAfter t ls → Demand3 t marks ls (liftAnswers t ls) (heldRun first count) is
   held-demand ls same = record {
     lifts = refl;
-    coded = λ _. subst (λ (x : Tree). CodeOf x marks is) same held-code;
+    coded = λ _. subst (λ (x : Tree). CodeOf x marks (heldRun first count) is) same held-code;
     lit = λ _. held-lights;
     registers = held-registers;
-    run = λ f c q. let a : first ≡ f = cc in let b : count ≡ c = cc in rw (← a, ← b) held-run;
     says = (λ z. absurd (omega (arith, ap (length {A = ℕ}) z)), λ q. differ cc);
     never = λ q. differ cc;
     always = λ k C. absurd (C .never (H .tree) (H .position) (equivalent-trans e (H .equivalent)) (H .gathered));
@@ -101,12 +97,10 @@ plain-demand t marks ls h none =
         coded = refl;
         left = λ _. refl;
         equivalent = equivalent-refl (treeAfter t ls);
-        position = 0;
-        gathered = λ k. absurd (omega (arith, ap (length {A = ℕ}) none));
+        run = λ f c q. differ cc;
       };
       lit = λ _. lights t (treeAfter t ls) (equivalent-sym (K .equivalent)) (K .most);
       registers = thirteen-suffice (treeAfter t ls) (K .most);
-      run = λ f c q. differ cc;
       says = (λ _. refl, λ _. none);
       never = λ q. differ cc;
       always = λ k C. absurd (omega (arith, ap (length {A = ℕ}) none));
@@ -121,7 +115,6 @@ never-demand t marks ls h some-mark C =
       coded = λ n. absurd (n refl);
       lit = λ n. absurd (n refl);
       registers = unfold Every in tt;
-      run = λ f c q. differ cc;
       says = (λ z. absurd (omega (arith, ap (length {A = ℕ}) z)), λ q. differ cc);
       never = λ _. never-alike (equivalent-sym (after-keeps t ls h .equivalent)) C;
       always = λ k D. refl;

@@ -9,4 +9,5 @@ pub mod LiftOneLaws
 pub mod LiftAllLaws
 pub mod FinishLaws
 pub mod DemandLaws
+pub mod SampleLaws
 pub mod AnswerLaws

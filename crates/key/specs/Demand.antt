@@ -19,20 +19,9 @@ use Rattle.key.specs.Key.{LiftAnswer, Held, unmarked, heldRun, cannot}
 use Rattle.sheet.specs.Reading.{LiftLine}
 use Rattle.key.specs.Lifting.{treeAfter, liftAnswers}
 
--- "its instructions are 01's code for the tree that the list leaves, gathered where there are marks"
-pub record CodeOf (u : Tree) (marks : List ℕ) (is : List Instruction) : Type 0 where
-  pub tree : Tree
-  pub coded : is ≡ code tree 0
-  pub left : marks ≡ [] → tree ≡ u
-  pub equivalent : Equivalent u tree
-  pub position : ℕ
-  pub gathered : 1 ≤ length marks → Gathered (isIn marks) tree position
-
 -- "the marked groups that the gathered tree holds (it may drop some) are loaded in one closed run, the holder's as 01 defines it
--- and `HELD` names it, which loads no others, and nowhere else"
-pub record HolderRun (marks : List ℕ) (is : List Instruction) (first count : ℕ) : Type 0 where
-  pub tree : Tree
-  pub coded : is ≡ code tree 0
+-- and `HELD` names it, which loads no others, and nowhere else": of a tree gathered for the marks, whose code is given
+pub record HolderRun (tree : Tree) (marks : List ℕ) (is : List Instruction) (first count : ℕ) : Type 0 where
   pub position : ℕ
   pub gathered : Gathered (isIn marks) tree position
   pub firstIs : first ≡ runFirst (gathered .holder) (gathered .above)
@@ -40,6 +29,14 @@ pub record HolderRun (marks : List ℕ) (is : List Instruction) (first count : �
   pub target : ℕ
   pub closed : ClosedRun is first count target
   pub apart : LoadsApart (isIn marks) is first count
+
+-- "its instructions are 01's code for the tree that the list leaves, gathered where there are marks": u is what the list leaves
+pub record CodeOf (u : Tree) (marks : List ℕ) (held : Held) (is : List Instruction) : Type 0 where
+  pub tree : Tree
+  pub coded : is ≡ code tree 0
+  pub left : marks ≡ [] → tree ≡ u
+  pub equivalent : Equivalent u tree
+  pub run : (first count : ℕ) → held ≡ heldRun first count → HolderRun tree marks is first count
 
 -- "Fed them, the player lights exactly the lamps that the tree as written selects, whichever lamps a patch that 01 allows gives
 -- the groups": whatever `play` answers and leaves, by its contract `Plays`
@@ -53,16 +50,15 @@ Lights t is =
 pub record Demand3 (t : Tree) (marks : List ℕ) (ls : List LiftLine) (done : List LiftAnswer) (held : Held) (is : List Instruction) : Type 0 where
   -- (a) "for every list of lifts in it, done or refused, from the tree as written"
   pub lifts : done ≡ liftAnswers t ls
-  -- (b) "Unless the key says `HELD` 19, its instructions are 01's code for the tree that the list leaves, gathered where there are marks."
-  pub coded : (held ≡ cannot → ⊥) → CodeOf (treeAfter t ls) marks is
+  -- (b) "Unless the key says `HELD` 19, its instructions are 01's code for the tree that the list leaves, gathered where there are marks",
+  -- and of that same tree (e) "Where there are marks, the marked groups .. are loaded in one closed run"
+  pub coded : (held ≡ cannot → ⊥) → CodeOf (treeAfter t ls) marks held is
+  -- with marks the key says `HELD`, and without marks it does not
+  pub says : (marks ≡ [] → held ≡ unmarked) × (held ≡ unmarked → marks ≡ [])
   -- (c)
   pub lit : (held ≡ cannot → ⊥) → Lights t is
   -- (d) "No register above 12 is named."
   pub registers : Every (Names 0 registerCount) is
-  -- (e) "Where there are marks, the marked groups .. are loaded in one closed run"
-  pub run : (first count : ℕ) → held ≡ heldRun first count → HolderRun marks is first count
-  -- with marks the key says `HELD`, and without marks it does not
-  pub says : (marks ≡ [] → held ≡ unmarked) × (held ≡ unmarked → marks ≡ [])
   -- (f) "`HELD` 19, "cannot be gathered", is answered for a sheet with marks exactly when no tree of unions and differences, of any
   -- size and over any groups, selects the same lamps as the tree as written for all contents of the groups and is gathered for those marks."
   pub never : held ≡ cannot → CannotBeGathered (isIn marks) t

@@ -3,4 +3,5 @@ pub mod Lifting
 pub mod Answering
 pub mod Demand
 pub mod Keyed
+pub mod Samples
 pub mod Inner

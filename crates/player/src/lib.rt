@@ -120,23 +120,22 @@ fn load_groups(patch: &[u16], first: usize) -> [u64; GROUPS + 1]
     groups
 }
 
-// The registers after one instruction.
-fn step(registers: [u64; REGISTERS], i: Numbers, groups: &[u64]) -> [u64; REGISTERS]
-    requires { ⌜ (wrongInstruction (i .kind) (i .target) (i .s) (i .t) ≡ false) × (length (now groups) ≡ lastGroup + 1) ⌝ }
-    ensures { λ r. ⌜ ((first : ℕ) (G : Rig) (R : Registers)
-        → HoldsSets (lastGroup + 1) first (now (groups .entry)) G → HoldsSets registerCount first registers R
-        → HoldsSets registerCount first r (step G (instruction (i .kind) (i .target) (i .s) (i .t)) R)) ⌝ }
+// Carries out one instruction.
+fn step(registers: &mut [u64; REGISTERS], i: Numbers, groups: &[u64])
+    requires { ⌜ (wrongInstruction (i .kind) (i .target) (i .s) (i .t) ≡ false) × (length (now groups) ≡ lastGroup + 1) × (length (now registers) ≡ registerCount) ⌝ }
+    ensures { λ _. ⌜ (length (now (registers .exit)) ≡ registerCount)
+        × ((first : ℕ) (G : Rig) (R : Registers)
+        → HoldsSets (lastGroup + 1) first (now (groups .entry)) G → HoldsSets registerCount first (now (registers .entry)) R
+        → HoldsSets registerCount first (now (registers .exit)) (step G (instruction (i .kind) (i .target) (i .s) (i .t)) R)) ⌝ }
 {
     let target = i.target;
     let s = i.s;
     let t = i.t;
-    let mut next = registers;
     if i.kind == LOAD {
-        next[target] = groups[s];
+        registers[target] = groups[s];
     } else {
-        next[target] = combine(i.kind, registers[s], registers[t]);
+        registers[target] = combine(i.kind, registers[s], registers[t]);
     }
-    next
 }
 
 // Register 0 after all the instructions.
@@ -149,8 +148,7 @@ fn execute(code: &[u16], groups: &[u64]) -> u64
     let mut at = 0;
     while 4 <= code.len() - at {
         let i = numbers_at(code, at);
-        let next = step(registers, i, groups);
-        registers = next;
+        step(&mut registers, i, groups);
         at += 4;
     }
     registers[0]

@@ -15,72 +15,93 @@ use Rattle.key.proofs.finish.Reads as finish-reads
 use Rattle.key.proofs.lift_all.Reads as lift-all-reads
 use Rattle.tree.proofs.copy.Reads as copy-reads
 
--- src/lib.rt:145:16
 array-share-prefix-entries : tie.Need-array-share-prefix-entries
-array-share-prefix-entries c = let p = c .before .before .before .pre .0 in is-read (c .before .before .before .args .sheet .now) (p .0) (c .before .before .before .args .read) (p .1) (p .2) .long
+array-share-prefix-entries c =
+    let pre = c .before .before .before .pre in
+    let args = c .before .before .before .args in
+    let p = pre .0 in is-read (args .sheet .now) (p .0) (args .read) (p .1) (p .2) .long
 
--- src/lib.rt:145:16
 slice-aggregate-copy : tie.Need-slice-aggregate-copy
-slice-aggregate-copy c = let p = c .before .before .before .before .pre .0 in sym (length-take-le (c .before .before .before .before .args .read .nodes) (c .before .before .before .before .args .read .tree) (is-read (c .before .before .before .before .args .sheet .now) (p .0) (c .before .before .before .before .args .read) (p .1) (p .2) .long))
+slice-aggregate-copy c =
+    let pre = c .before .before .before .before .pre in
+    let args = c .before .before .before .before .args in
+    let p = pre .0 in sym (length-take-le (args .read .nodes) (args .read .tree) (is-read (args .sheet .now) (p .0) (args .read) (p .1) (p .2) .long))
 
--- src/lib.rt:145:35
 slice-aggregate-copy-2 : tie.Need-slice-aggregate-copy-2
 slice-aggregate-copy-2 c = search needs
 
--- src/lib.rt:145:5
 copy-requires : tie.Need-copy-requires
-copy-requires c κs = let p = c .before .before .before .before .before .pre .0 in
-    let I = is-read (c .before .before .before .before .before .args .sheet .now) (p .0) (c .before .before .before .before .before .args .read) (p .1) (p .2) in
-    omega (arith, length-take-le (c .before .before .before .before .before .args .read .nodes) (c .before .before .before .before .before .args .read .tree) (I .long), I .counted, I .most)
+copy-requires c κs =
+    let pre = c .before .before .before .before .before .pre in
+    let args = c .before .before .before .before .before .args in
+    let p = pre .0 in
+    let I = is-read (args .sheet .now) (p .0) (args .read) (p .1) (p .2) in
+    omega (arith, length-take-le (args .read .nodes) (args .read .tree) (I .long), I .counted, I .most)
 
--- src/lib.rt:146:56
 slice-aggregate-lift-all : tie.Need-slice-aggregate-lift-all
 slice-aggregate-lift-all c = search needs
 
--- src/lib.rt:146:9
 lift-all-requires : tie.Need-lift-all-requires
-lift-all-requires c κs = let p = c .before .before .before .before .before .before .before .before .before .pre in
-    let I = is-read (c .before .before .before .before .before .before .before .before .before .args .sheet .now) (p .0 .0) (c .before .before .before .before .before .before .before .before .before .args .read) (p .0 .1) (p .0 .2) in
-    let s = c .before .before .before .copy .ensures .same in
-    ((I .has .tree, p .0 .0 .lifts, read-copied I (zeros-length 8191) (c .before .before .before .copy .ensures), I .asks), omega (arith, s, zeros-length 8191, I .counted, I .most), omega (arith, s, zeros-length 8191), omega (arith, I .few, p .1))
+lift-all-requires c κs =
+    let args = c .before .before .before .before .before .before .before .before .before .args in
+    let copy = c .before .before .before .copy in
+    let p = c .before .before .before .before .before .before .before .before .before .pre in
+    let I = is-read (args .sheet .now) (p .0 .0) (args .read) (p .0 .1) (p .0 .2) in
+    let s = copy .ensures .same in
+    ((I .has .tree, p .0 .0 .lifts, read-copied I (zeros-length 8191) (copy .ensures), I .asks), omega (arith, s, zeros-length 8191, I .counted, I .most), omega (arith, s, zeros-length 8191), omega (arith, I .few, p .1))
 
--- src/lib.rt:150:12
 array-share-prefix-tree : tie.Need-array-share-prefix-tree
-array-share-prefix-tree c = let p = c .before .before .before .before .before .before .before .before .before .before .before .before .before .before .pre in
-    let I = is-read (c .before .before .before .before .before .before .before .before .before .before .before .before .before .before .args .sheet .now) (p .0 .0) (c .before .before .before .before .before .before .before .before .before .before .before .before .before .before .args .read) (p .0 .1) (p .0 .2) in
-    let L = c .before .before .before .before .lift-all .ensures (I .has .tree) (p .0 .0 .lifts) (read-copied I (zeros-length 8191) (c .before .before .before .before .before .before .before .before .copy .ensures)) (I .asks) in
-    omega (arith, L .fits, c .before .before .before .before .lift-all .kept .1 .1 .1 .0, c .before .before .before .before .before .before .before .before .copy .ensures .same, zeros-length 8191)
+array-share-prefix-tree c =
+    let args = c .before .before .before .before .before .before .before .before .before .before .before .before .before .before .args in
+    let copy = c .before .before .before .before .before .before .before .before .copy in
+    let lift-all = c .before .before .before .before .lift-all in
+    let p = c .before .before .before .before .before .before .before .before .before .before .before .before .before .before .pre in
+    let I = is-read (args .sheet .now) (p .0 .0) (args .read) (p .0 .1) (p .0 .2) in
+    let L = lift-all .ensures (I .has .tree) (p .0 .0 .lifts) (read-copied I (zeros-length 8191) (copy .ensures)) (I .asks) in
+    omega (arith, L .fits, lift-all .kept .1 .1 .1 .0, copy .ensures .same, zeros-length 8191)
 
--- src/lib.rt:150:12
 slice-aggregate-finish : tie.Need-slice-aggregate-finish
-slice-aggregate-finish c = let p = c .before .before .before .before .before .before .before .before .before .before .before .before .before .before .before .pre in
-    let I = is-read (c .before .before .before .before .before .before .before .before .before .before .before .before .before .before .before .args .sheet .now) (p .0 .0) (c .before .before .before .before .before .before .before .before .before .before .before .before .before .before .before .args .read) (p .0 .1) (p .0 .2) in
-    let L = c .before .before .before .before .before .lift-all .ensures (I .has .tree) (p .0 .0 .lifts) (read-copied I (zeros-length 8191) (c .before .before .before .before .before .before .before .before .before .copy .ensures)) (I .asks) in
-    sym (length-take-le (c .before .before .before .before .before .lift-all .result .nodes) (c .before .before .before .before .before .lift-all .last .1 .1 .1 .0) (omega (arith, L .fits, c .before .before .before .before .before .lift-all .kept .1 .1 .1 .0, c .before .before .before .before .before .before .before .before .before .copy .ensures .same, zeros-length 8191)))
+slice-aggregate-finish c =
+    let args = c .before .before .before .before .before .before .before .before .before .before .before .before .before .before .before .args in
+    let copy = c .before .before .before .before .before .before .before .before .before .copy in
+    let lift-all = c .before .before .before .before .before .lift-all in
+    let p = c .before .before .before .before .before .before .before .before .before .before .before .before .before .before .before .pre in
+    let I = is-read (args .sheet .now) (p .0 .0) (args .read) (p .0 .1) (p .0 .2) in
+    let L = lift-all .ensures (I .has .tree) (p .0 .0 .lifts) (read-copied I (zeros-length 8191) (copy .ensures)) (I .asks) in
+    sym (length-take-le (lift-all .result .nodes) (lift-all .last .1 .1 .1 .0) (omega (arith, L .fits, lift-all .kept .1 .1 .1 .0, copy .ensures .same, zeros-length 8191)))
 
--- src/lib.rt:150:27
 array-share-prefix-marks : tie.Need-array-share-prefix-marks
-array-share-prefix-marks c = let p = c .before .before .before .before .before .before .before .before .before .before .before .before .before .before .before .pre .0 in is-read (c .before .before .before .before .before .before .before .before .before .before .before .before .before .before .before .args .sheet .now) (p .0) (c .before .before .before .before .before .before .before .before .before .before .before .before .before .before .before .args .read) (p .1) (p .2) .marks-long
+array-share-prefix-marks c =
+    let pre = c .before .before .before .before .before .before .before .before .before .before .before .before .before .before .before .pre in
+    let args = c .before .before .before .before .before .before .before .before .before .before .before .before .before .before .before .args in
+    let p = pre .0 in is-read (args .sheet .now) (p .0) (args .read) (p .1) (p .2) .marks-long
 
--- src/lib.rt:150:27
 slice-aggregate-finish-2 : tie.Need-slice-aggregate-finish-2
-slice-aggregate-finish-2 c = let p = c .before .before .before .before .before .before .before .before .before .before .before .before .before .before .before .before .pre .0 in sym (length-take-le (c .before .before .before .before .before .before .before .before .before .before .before .before .before .before .before .before .args .read .marked) (c .before .before .before .before .before .before .before .before .before .before .before .before .before .before .before .before .args .read .marks) (is-read (c .before .before .before .before .before .before .before .before .before .before .before .before .before .before .before .before .args .sheet .now) (p .0) (c .before .before .before .before .before .before .before .before .before .before .before .before .before .before .before .before .args .read) (p .1) (p .2) .marks-long))
+slice-aggregate-finish-2 c =
+    let pre = c .before .before .before .before .before .before .before .before .before .before .before .before .before .before .before .before .pre in
+    let args = c .before .before .before .before .before .before .before .before .before .before .before .before .before .before .before .before .args in
+    let p = pre .0 in sym (length-take-le (args .read .marked) (args .read .marks) (is-read (args .sheet .now) (p .0) (args .read) (p .1) (p .2) .marks-long))
 
--- src/lib.rt:150:5
 finish-requires : tie.Need-finish-requires
-finish-requires c κs = let p = c .before .before .before .before .before .before .before .before .before .before .before .before .before .before .before .before .before .pre in
-    let I = is-read (c .before .before .before .before .before .before .before .before .before .before .before .before .before .before .before .before .before .args .sheet .now) (p .0 .0) (c .before .before .before .before .before .before .before .before .before .before .before .before .before .before .before .before .before .args .read) (p .0 .1) (p .0 .2) in
-    let L = c .before .before .before .before .before .before .before .lift-all .ensures (I .has .tree) (p .0 .0 .lifts) (read-copied I (zeros-length 8191) (c .before .before .before .before .before .before .before .before .before .before .before .copy .ensures)) (I .asks) in
+finish-requires c κs =
+    let args = c .before .before .before .before .before .before .before .before .before .before .before .before .before .before .before .before .before .args in
+    let copy = c .before .before .before .before .before .before .before .before .before .before .before .copy in
+    let lift-all = c .before .before .before .before .before .before .before .lift-all in
+    let p = c .before .before .before .before .before .before .before .before .before .before .before .before .before .before .before .before .before .pre in
+    let I = is-read (args .sheet .now) (p .0 .0) (args .read) (p .0 .1) (p .0 .2) in
+    let L = lift-all .ensures (I .has .tree) (p .0 .0 .lifts) (read-copied I (zeros-length 8191) (copy .ensures)) (I .asks) in
     ((_, L .holds, read-marks I), omega (arith, read-most I L, L .wrote .same, p .1))
 
--- src/lib.rt:138:1
 same-length : tie.Need-same-length
 same-length c = search needs
 
--- src/lib.rt:138:1
 returns : tie.Need-returns
-returns c = λ st e f. let I = is-read (c .before .before .before .before .before .before .before .before .before .before .before .before .before .before .before .before .before .before .before .before .args .sheet .now) st (c .before .before .before .before .before .before .before .before .before .before .before .before .before .before .before .before .before .before .before .before .args .read) e f in
-    let L = c .before .before .before .before .before .before .before .before .before .before .lift-all .ensures (I .has .tree) (st .lifts) (read-copied I (zeros-length 8191) (c .before .before .before .before .before .before .before .before .before .before .before .before .before .before .copy .ensures)) (I .asks) in
+returns c =
+    let args = c .before .before .before .before .before .before .before .before .before .before .before .before .before .before .before .before .before .before .before .before .args in
+    let copy = c .before .before .before .before .before .before .before .before .before .before .before .before .before .before .copy in
+    let lift-all = c .before .before .before .before .before .before .before .before .before .before .lift-all in
+    λ st e f. let I = is-read (args .sheet .now) st (args .read) e f in
+    let L = lift-all .ensures (I .has .tree) (st .lifts) (read-copied I (zeros-length 8191) (copy .ensures)) (I .asks) in
     read-answered I L (c .before .before .finish .ensures _ (L .holds) (read-marks I))
 
 pub answer-sheet-spec : {M : Type 1} → statement M

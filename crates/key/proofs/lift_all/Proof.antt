@@ -26,62 +26,62 @@ Inv-loop sheet start count tree₀ nodes out₀ at₀ entries₀ next₀ i₀ tr
 abbrev μ-loop : tie.MeasureT-loop
 μ-loop sheet start count tree₀ nodes out₀ at₀ entries₀ next₀ i₀ tree out at entries next i = count - i
 
--- src/lib.rt:115:5
 loop-holds : tie.Need-loop-holds Inv-loop μ-loop
-loop-holds c = let a = c .before .before .before .args in (omega arith, c .before .before .before .pre .1, c .before .before .before .pre .2, refl, refl, λ t ls w k. reached-start (a .sheet .now) t ls (a .start) (a .count) (a .tree .now) (a .nodes) (a .out .now) w k)
+loop-holds c =
+    let pre = c .before .before .before .pre in
+    let a = c .before .before .before .args in (omega arith, pre .1, pre .2, refl, refl, λ t ls w k. reached-start (a .sheet .now) t ls (a .start) (a .count) (a .tree .now) (a .nodes) (a .out .now) w k)
 
--- src/lib.rt:116:13
 line-at-requires : tie.Need-line-at-requires Inv-loop μ-loop
 line-at-requires c κs = search needs
 
--- src/lib.rt:118:13
 lift-numbers-requires : tie.Need-lift-numbers-requires Inv-loop μ-loop
 lift-numbers-requires c κs = search needs
 
--- src/lib.rt:119:13
 lift-one-requires : tie.Need-lift-one-requires Inv-loop μ-loop
-lift-one-requires c κs = let l = c .before .before .before .before .before .loop in
+lift-one-requires c κs =
+    let loop-test = c .before .before .before .before .loop-test in
+    let line-at = c .before .before .before .line-at in
+    let l = c .before .before .before .before .before .loop in
     let p = c .before .before .before .before .before .before .before .before .before .pre in
     let R = l .inv .5 (p .0 .0) (p .0 .1) (p .0 .2) (p .0 .3) in
-    let T = reached-turn R (c .before .before .before .before .loop-test .taken) in
-    let q = c .before .before .lift-numbers .ensures (T .line .position) (T .line .levels) (ap (λ (x : LineAt). x .line) (c .before .before .before .line-at .ensures) ∙ T .read) in
+    let T = reached-turn R (loop-test .taken) in
+    let q = c .before .before .lift-numbers .ensures (T .line .position) (T .line .levels) (ap (λ (x : LineAt). x .line) (line-at .ensures) ∙ T .read) in
     ((R .present, R .holds), l .inv .1, l .inv .2, omega (arith, q .0, T .range .position-most), omega (arith, q .1, T .range .levels-most), omega (arith, R .most, p .3, l .inv .3))
 
--- src/lib.rt:123:9
 add-i : tie.Need-add-i Inv-loop μ-loop
 add-i c = search needs
 
--- src/lib.rt:115:5
 loop-less : tie.Need-loop-less Inv-loop μ-loop
 loop-less c = omega arith
 
--- src/lib.rt:115:5
 loop-again : tie.Need-loop-again Inv-loop μ-loop
-loop-again c = let l = c .before .before .before .before .before .before .before .before .before .before .loop in
+loop-again c =
+    let loop-test = c .before .before .before .before .before .before .before .before .before .loop-test in
+    let line-at = c .before .before .before .before .before .before .before .before .line-at in
+    let lift-numbers = c .before .before .before .before .before .before .before .lift-numbers in
+    let lift-one = c .before .before .before .before .lift-one in
+    let l = c .before .before .before .before .before .before .before .before .before .before .loop in
     let p = c .before .before .before .before .before .before .before .before .before .before .before .before .before .before .pre in
     let R = l .inv .5 (p .0 .0) (p .0 .1) (p .0 .2) (p .0 .3) in
-    let L = c .before .before .before .before .lift-one .ensures (R .present) (R .holds) in
-    let k = c .before .before .before .before .lift-one .kept in (
+    let L = lift-one .ensures (R .present) (R .holds) in
+    let k = lift-one .kept in (
       omega arith,
       omega (arith, L .fits, l .inv .2, k .0),
       omega (arith, l .inv .2, k .0),
       k .1 .1 .1 .1 .0 ∙ l .inv .3,
       k .0 ∙ l .inv .4,
       λ t ls w a. let S = l .inv .5 t ls w a in
-          let T = reached-turn S (c .before .before .before .before .before .before .before .before .before .loop-test .taken) in
-          let q = c .before .before .before .before .before .before .before .lift-numbers .ensures (T .line .position) (T .line .levels) (ap (λ (x : LineAt). x .line) (c .before .before .before .before .before .before .before .before .line-at .ensures) ∙ T .read) in
-          rw (c .before .before .before .before .before .before .before .before .line-at .ensures) (reached-next S (c .before .before .before .before .before .before .before .before .before .loop-test .taken) T (rw (q .0, q .1) at (c .before .before .before .before .lift-one .ensures (S .present) (S .holds)))),
+          let T = reached-turn S (loop-test .taken) in
+          let q = lift-numbers .ensures (T .line .position) (T .line .levels) (ap (λ (x : LineAt). x .line) (line-at .ensures) ∙ T .read) in
+          rw (line-at .ensures) (reached-next S (loop-test .taken) T (rw (q .0, q .1) at (lift-one .ensures (S .present) (S .holds)))),
     )
 
--- src/lib.rt:107:1
 same-length : tie.Need-same-length Inv-loop μ-loop
 same-length c = c .before .loop .inv .4
 
--- src/lib.rt:107:1
 same-length-2 : tie.Need-same-length-2 Inv-loop μ-loop
 same-length-2 c = c .before .loop .inv .3
 
--- src/lib.rt:107:1
 returns : tie.Need-returns Inv-loop μ-loop
 returns c = λ t ls w a. let l = c .before .loop in
     let R = l .inv .5 t ls w a in

@@ -8,23 +8,18 @@ use Rattle.key.proofs.lift_numbers.Tie as tie
 use Rattle.key.proofs.lift_numbers.Reads as reads
 use Rattle.key.proofs.lift_numbers.Lts as lts
 
--- src/lib.rt:100:27
 enum-known-line : tie.Need-enum-known-line
 enum-known-line c = search needs
 
--- src/lib.rt:101:9
 returns : tie.Need-returns
 returns c = λ p n e. not-two (rw e at (c .match .keys2))
 
--- src/lib.rt:103:29
 cast-t4 : tie.Need-cast-t4
 cast-t4 c = search needs
 
--- src/lib.rt:103:56
 cast-t5 : tie.Need-cast-t5
 cast-t5 c = search needs
 
--- src/lib.rt:97:1
 returns-2 : tie.Need-returns-2
 returns-2 c = λ p n e. let f = c .before .line .given .1 in (cc, cc)
 

@@ -15,81 +15,73 @@ Inv-loop code out₀ at i₀ next₀ out i next = (i ≤ length code) × WroteUp
 abbrev μ-loop : tie.MeasureT-loop
 μ-loop code out₀ at i₀ next₀ out i next = length code - i
 
--- src/lib.rt:35:5
 loop-holds : tie.Need-loop-holds Inv-loop μ-loop
 loop-holds c = (omega arith, up-to-start (codeText (c .before .before .args .code .now)) (c .before .before .args .out .now) (c .before .before .args .at))
 
--- src/lib.rt:35:16
 sub-loop : tie.Need-sub-loop Inv-loop μ-loop
 sub-loop c = search needs
 
--- src/lib.rt:36:32
 mul-put-instruction : tie.Need-mul-put-instruction Inv-loop μ-loop
 mul-put-instruction c = search needs
 
--- src/lib.rt:36:32
 shared-slice-read-put-instruction : tie.Need-shared-slice-read-put-instruction Inv-loop μ-loop
 shared-slice-read-put-instruction c = search needs
 
--- src/lib.rt:36:46
 add-put-instruction : tie.Need-add-put-instruction Inv-loop μ-loop
 add-put-instruction c = search needs
 
--- src/lib.rt:36:41
 mul-put-instruction-2 : tie.Need-mul-put-instruction-2 Inv-loop μ-loop
 mul-put-instruction-2 c = search needs
 
--- src/lib.rt:36:41
 shared-slice-read-put-instruction-2 : tie.Need-shared-slice-read-put-instruction-2 Inv-loop μ-loop
 shared-slice-read-put-instruction-2 c = search needs
 
--- src/lib.rt:36:59
 add-put-instruction-2 : tie.Need-add-put-instruction-2 Inv-loop μ-loop
 add-put-instruction-2 c = search needs
 
--- src/lib.rt:36:54
 mul-put-instruction-3 : tie.Need-mul-put-instruction-3 Inv-loop μ-loop
 mul-put-instruction-3 c = search needs
 
--- src/lib.rt:36:54
 shared-slice-read-put-instruction-3 : tie.Need-shared-slice-read-put-instruction-3 Inv-loop μ-loop
 shared-slice-read-put-instruction-3 c = search needs
 
--- src/lib.rt:36:72
 add-put-instruction-3 : tie.Need-add-put-instruction-3 Inv-loop μ-loop
 add-put-instruction-3 c = search needs
 
--- src/lib.rt:36:67
 mul-put-instruction-4 : tie.Need-mul-put-instruction-4 Inv-loop μ-loop
 mul-put-instruction-4 c = search needs
 
--- src/lib.rt:36:67
 shared-slice-read-put-instruction-4 : tie.Need-shared-slice-read-put-instruction-4 Inv-loop μ-loop
 shared-slice-read-put-instruction-4 c = search needs
 
--- src/lib.rt:36:9
 put-instruction-requires : tie.Need-put-instruction-requires Inv-loop μ-loop
-put-instruction-requires c κs = code-room (c .before .before .before .before .before .before .before .before .before .args .code .now) (c .before .before .before .before .before .before .loop .i) (c .before .before .before .before .before .loop-test .taken) (c .before .before .before .before .before .before .loop .inv .1) (c .before .before .before .before .before .before .before .before .before .pre)
+put-instruction-requires c κs =
+    let args = c .before .before .before .before .before .before .before .before .before .args in
+    let pre = c .before .before .before .before .before .before .before .before .before .pre in
+    let loop = c .before .before .before .before .before .before .loop in
+    let loop-test = c .before .before .before .before .before .loop-test in
+    code-room (args .code .now) (loop .i) (loop-test .taken) (loop .inv .1) pre
 
--- src/lib.rt:37:9
 add-i : tie.Need-add-i Inv-loop μ-loop
 add-i c = search needs
 
--- src/lib.rt:35:5
 loop-less : tie.Need-loop-less Inv-loop μ-loop
 loop-less c = search needs
 
--- src/lib.rt:35:5
 loop-again : tie.Need-loop-again Inv-loop μ-loop
-loop-again c = (omega arith, up-to-next _ (code-text-next (c .before .before .before .before .before .before .before .before .before .before .before .before .args .code .now) (c .before .before .before .before .before .before .before .before .before .loop .i) (c .before .before .before .before .before .before .before .before .loop-test .taken)) (c .before .before .before .before .before .before .before .before .before .loop .inv .1) (c .before .before .put-instruction .ensures))
+loop-again c =
+    let args = c .before .before .before .before .before .before .before .before .before .before .before .before .args in
+    let loop = c .before .before .before .before .before .before .before .before .before .loop in
+    let loop-test = c .before .before .before .before .before .before .before .before .loop-test in
+    (omega arith, up-to-next _ (code-text-next (args .code .now) (loop .i) (loop-test .taken)) (loop .inv .1) (c .before .before .put-instruction .ensures))
 
--- src/lib.rt:29:1
 same-length : tie.Need-same-length Inv-loop μ-loop
 same-length c = c .before .loop .inv .1 .wrote .same
 
--- src/lib.rt:29:1
 returns : tie.Need-returns Inv-loop μ-loop
-returns c = up-to-end _ (code-text-end (drop (c .before .loop .i) (c .before .before .before .before .args .code .now)) (simp length-drop (omega arith))) (c .before .loop .inv .1)
+returns c =
+    let args = c .before .before .before .before .args in
+    up-to-end _ (code-text-end (drop (c .before .loop .i) (args .code .now)) (simp length-drop (omega arith))) (c .before .loop .inv .1)
 
 pub put-code-spec : {M : Type 1} → statement M
 put-code-spec =

@@ -17,88 +17,113 @@ use Rattle.gather.proofs.gather.Reads as gather-reads
 use Rattle.key.proofs.put_tree_code.Reads as put-tree-code-reads
 use Rattle.text.proofs.put_line.Reads as put-line-reads
 
--- src/lib.rt:135:46
 slice-aggregate-gather : tie.Need-slice-aggregate-gather
 slice-aggregate-gather c = search needs
 
--- src/lib.rt:135:9
 gather-requires : tie.Need-gather-requires
 gather-requires c κs = search needs
 
--- src/lib.rt:136:35
 enum-known-answer : tie.Need-enum-known-answer
 enum-known-answer c = search needs
 
--- src/lib.rt:137:31
 enum-told : tie.Need-enum-told
 enum-told c = search needs
 
--- src/lib.rt:137:31
 slice-aggregate-put-line : tie.Need-slice-aggregate-put-line
 slice-aggregate-put-line c = search needs
 
--- src/lib.rt:137:40
 slice-aggregate-put-line-2 : tie.Need-slice-aggregate-put-line-2
 slice-aggregate-put-line-2 c = search needs
 
--- src/lib.rt:137:9
 put-line-requires : tie.Need-put-line-requires
-put-line-requires c κs = omega (arith, never-most, c .before .before .before .before .before .before .before .before .before .before .before .pre .2)
+put-line-requires c κs =
+    let pre = c .before .before .before .before .before .before .before .before .before .before .before .pre in
+    omega (arith, never-most, pre .2)
 
--- src/lib.rt:137:9
 same-length : tie.Need-same-length
 same-length c = search needs
 
--- src/lib.rt:137:9
 returns : tie.Need-returns
-returns c = λ u w m. finished-never (c .before .before .before .before .before .before .before .before .before .before .before .before .before .before .pre .1) (gathered-never (c .before .before .before .before .before .before .before .before .before .before .before .before .before .before .args .tree .now) (c .before .before .before .before .before .before .before .before .before .before .before .before .before .before .args .marks .now) (replicate 8191 0) (c .before .before .before .before .before .before .before .before .before .gather .last .1 .1 .0) (c .before .before .before .before .before .before .before .before .before .gather .result) u w m (c .before .before .before .before .before .before .before .before .before .before .before .before .before .before .pre .1) (zeros-length 8191) (c .before .before .before .before .before .before .before .before .before .gather .ensures) (c .before .before .before .before .before .before .enum-told .given .0 .0) (c .before .before .before .before .before .before .enum-told .given .1)) (c .before .before .put-line .ensures)
+returns c =
+    let pre = c .before .before .before .before .before .before .before .before .before .before .before .before .before .before .pre in
+    let args = c .before .before .before .before .before .before .before .before .before .before .before .before .before .before .args in
+    let gather = c .before .before .before .before .before .before .before .before .before .gather in
+    let enum-told = c .before .before .before .before .before .before .enum-told in
+    λ u w m. finished-never (pre .1) (gathered-never (args .tree .now) (args .marks .now) (replicate 8191 0) (gather .last .1 .1 .0) (gather .result) u w m (pre .1) (zeros-length 8191) (gather .ensures) (enum-told .given .0 .0) (enum-told .given .1)) (c .before .before .put-line .ensures)
 
--- src/lib.rt:139:29
 array-share-prefix-gathered : tie.Need-array-share-prefix-gathered
-array-share-prefix-gathered c = gathered-long (gathered-done (c .before .before .before .before .before .before .before .before .before .args .tree .now) (c .before .before .before .before .before .before .before .before .before .args .marks .now) (replicate 8191 0) (c .before .before .before .before .gather .last .1 .1 .0) (c .before .before .before .before .gather .result) (c .before .before .before .before .before .before .before .before .before .pre .0 .0) (c .before .before .before .before .before .before .before .before .before .pre .0 .1) (c .before .before .before .before .before .before .before .before .before .pre .0 .2) (c .before .before .before .before .before .before .before .before .before .pre .1) (zeros-length 8191) (c .before .before .before .before .gather .ensures) (c .before .answer .given .0 .0) (c .before .answer .given .0 .1 .0) (c .before .answer .given .1))
+array-share-prefix-gathered c =
+    let args = c .before .before .before .before .before .before .before .before .before .args in
+    let pre = c .before .before .before .before .before .before .before .before .before .pre in
+    let gather = c .before .before .before .before .gather in
+    gathered-long (gathered-done (args .tree .now) (args .marks .now) (replicate 8191 0) (gather .last .1 .1 .0) (gather .result) (pre .0 .0) (pre .0 .1) (pre .0 .2) (pre .1) (zeros-length 8191) (gather .ensures) (c .before .answer .given .0 .0) (c .before .answer .given .0 .1 .0) (c .before .answer .given .1))
 
--- src/lib.rt:139:29
 slice-aggregate-run-of : tie.Need-slice-aggregate-run-of
-slice-aggregate-run-of c = sym (length-take-le (c .before .before .answer .given .0 .0) (c .before .before .before .before .before .gather .last .1 .1 .0) (gathered-long (gathered-done (c .before .before .before .before .before .before .before .before .before .before .args .tree .now) (c .before .before .before .before .before .before .before .before .before .before .args .marks .now) (replicate 8191 0) (c .before .before .before .before .before .gather .last .1 .1 .0) (c .before .before .before .before .before .gather .result) (c .before .before .before .before .before .before .before .before .before .before .pre .0 .0) (c .before .before .before .before .before .before .before .before .before .before .pre .0 .1) (c .before .before .before .before .before .before .before .before .before .before .pre .0 .2) (c .before .before .before .before .before .before .before .before .before .before .pre .1) (zeros-length 8191) (c .before .before .before .before .before .gather .ensures) (c .before .before .answer .given .0 .0) (c .before .before .answer .given .0 .1 .0) (c .before .before .answer .given .1))))
+slice-aggregate-run-of c =
+    let args = c .before .before .before .before .before .before .before .before .before .before .args in
+    let pre = c .before .before .before .before .before .before .before .before .before .before .pre in
+    let gather = c .before .before .before .before .before .gather in
+    sym (length-take-le (c .before .before .answer .given .0 .0) (gather .last .1 .1 .0) (gathered-long (gathered-done (args .tree .now) (args .marks .now) (replicate 8191 0) (gather .last .1 .1 .0) (gather .result) (pre .0 .0) (pre .0 .1) (pre .0 .2) (pre .1) (zeros-length 8191) (gather .ensures) (c .before .before .answer .given .0 .0) (c .before .before .answer .given .0 .1 .0) (c .before .before .answer .given .1))))
 
--- src/lib.rt:139:9
 run-of-requires : tie.Need-run-of-requires
 run-of-requires c κs = search needs
 
--- src/lib.rt:140:31
 slice-aggregate-put-line-3 : tie.Need-slice-aggregate-put-line-3
 slice-aggregate-put-line-3 c = search needs
 
--- src/lib.rt:140:40
 slice-aggregate-put-line-4 : tie.Need-slice-aggregate-put-line-4
 slice-aggregate-put-line-4 c = search needs
 
--- src/lib.rt:140:9
 put-line-requires-2 : tie.Need-put-line-requires-2
-put-line-requires-2 c κs = let D = gathered-done (c .before .before .before .before .before .before .before .before .before .before .before .before .before .before .args .tree .now) (c .before .before .before .before .before .before .before .before .before .before .before .before .before .before .args .marks .now) (replicate 8191 0) (c .before .before .before .before .before .before .before .before .before .gather .last .1 .1 .0) (c .before .before .before .before .before .before .before .before .before .gather .result) (c .before .before .before .before .before .before .before .before .before .before .before .before .before .before .pre .0 .0) (c .before .before .before .before .before .before .before .before .before .before .before .before .before .before .pre .0 .1) (c .before .before .before .before .before .before .before .before .before .before .before .before .before .before .pre .0 .2) (c .before .before .before .before .before .before .before .before .before .before .before .before .before .before .pre .1) (zeros-length 8191) (c .before .before .before .before .before .before .before .before .before .gather .ensures) (c .before .before .before .before .before .before .answer .given .0 .0) (c .before .before .before .before .before .before .answer .given .0 .1 .0) (c .before .before .before .before .before .before .answer .given .1) in
-    omega (arith, run-line (D .result) (isIn (c .before .before .before .before .before .before .before .before .before .before .before .before .before .before .args .marks .now)) (c .before .before .before .before .before .before .answer .given .0 .1 .0) (D .gathered) (D .most) (take (c .before .before .before .before .before .before .answer .given .0 .0) (c .before .before .before .before .before .before .before .before .before .gather .last .1 .1 .0)) (gathered-list D .list) (c .before .before .before .run-of .result) (c .before .before .before .run-of .ensures), c .before .before .before .before .before .before .before .before .before .before .before .before .before .before .pre .2)
+put-line-requires-2 c κs =
+    let args = c .before .before .before .before .before .before .before .before .before .before .before .before .before .before .args in
+    let pre = c .before .before .before .before .before .before .before .before .before .before .before .before .before .before .pre in
+    let gather = c .before .before .before .before .before .before .before .before .before .gather in
+    let answer = c .before .before .before .before .before .before .answer in
+    let run-of = c .before .before .before .run-of in
+    let D = gathered-done (args .tree .now) (args .marks .now) (replicate 8191 0) (gather .last .1 .1 .0) (gather .result) (pre .0 .0) (pre .0 .1) (pre .0 .2) (pre .1) (zeros-length 8191) (gather .ensures) (answer .given .0 .0) (answer .given .0 .1 .0) (answer .given .1) in
+    omega (arith, run-line (D .result) (isIn (args .marks .now)) (answer .given .0 .1 .0) (D .gathered) (D .most) (take (answer .given .0 .0) (gather .last .1 .1 .0)) (gathered-list D .list) (run-of .result) (run-of .ensures), pre .2)
 
--- src/lib.rt:141:19
 array-share-prefix-gathered-2 : tie.Need-array-share-prefix-gathered-2
-array-share-prefix-gathered-2 c = gathered-long (gathered-done (c .before .before .before .before .before .before .before .before .before .before .before .before .before .before .before .before .before .args .tree .now) (c .before .before .before .before .before .before .before .before .before .before .before .before .before .before .before .before .before .args .marks .now) (replicate 8191 0) (c .before .before .before .before .before .before .before .before .before .before .before .before .gather .last .1 .1 .0) (c .before .before .before .before .before .before .before .before .before .before .before .before .gather .result) (c .before .before .before .before .before .before .before .before .before .before .before .before .before .before .before .before .before .pre .0 .0) (c .before .before .before .before .before .before .before .before .before .before .before .before .before .before .before .before .before .pre .0 .1) (c .before .before .before .before .before .before .before .before .before .before .before .before .before .before .before .before .before .pre .0 .2) (c .before .before .before .before .before .before .before .before .before .before .before .before .before .before .before .before .before .pre .1) (zeros-length 8191) (c .before .before .before .before .before .before .before .before .before .before .before .before .gather .ensures) (c .before .before .before .before .before .before .before .before .before .answer .given .0 .0) (c .before .before .before .before .before .before .before .before .before .answer .given .0 .1 .0) (c .before .before .before .before .before .before .before .before .before .answer .given .1))
+array-share-prefix-gathered-2 c =
+    let args = c .before .before .before .before .before .before .before .before .before .before .before .before .before .before .before .before .before .args in
+    let pre = c .before .before .before .before .before .before .before .before .before .before .before .before .before .before .before .before .before .pre in
+    let gather = c .before .before .before .before .before .before .before .before .before .before .before .before .gather in
+    let answer = c .before .before .before .before .before .before .before .before .before .answer in
+    gathered-long (gathered-done (args .tree .now) (args .marks .now) (replicate 8191 0) (gather .last .1 .1 .0) (gather .result) (pre .0 .0) (pre .0 .1) (pre .0 .2) (pre .1) (zeros-length 8191) (gather .ensures) (answer .given .0 .0) (answer .given .0 .1 .0) (answer .given .1))
 
--- src/lib.rt:141:19
 slice-aggregate-put-tree-code : tie.Need-slice-aggregate-put-tree-code
-slice-aggregate-put-tree-code c = sym (length-take-le (c .before .before .before .before .before .before .before .before .before .before .answer .given .0 .0) (c .before .before .before .before .before .before .before .before .before .before .before .before .before .gather .last .1 .1 .0) (gathered-long (gathered-done (c .before .before .before .before .before .before .before .before .before .before .before .before .before .before .before .before .before .before .args .tree .now) (c .before .before .before .before .before .before .before .before .before .before .before .before .before .before .before .before .before .before .args .marks .now) (replicate 8191 0) (c .before .before .before .before .before .before .before .before .before .before .before .before .before .gather .last .1 .1 .0) (c .before .before .before .before .before .before .before .before .before .before .before .before .before .gather .result) (c .before .before .before .before .before .before .before .before .before .before .before .before .before .before .before .before .before .before .pre .0 .0) (c .before .before .before .before .before .before .before .before .before .before .before .before .before .before .before .before .before .before .pre .0 .1) (c .before .before .before .before .before .before .before .before .before .before .before .before .before .before .before .before .before .before .pre .0 .2) (c .before .before .before .before .before .before .before .before .before .before .before .before .before .before .before .before .before .before .pre .1) (zeros-length 8191) (c .before .before .before .before .before .before .before .before .before .before .before .before .before .gather .ensures) (c .before .before .before .before .before .before .before .before .before .before .answer .given .0 .0) (c .before .before .before .before .before .before .before .before .before .before .answer .given .0 .1 .0) (c .before .before .before .before .before .before .before .before .before .before .answer .given .1))))
+slice-aggregate-put-tree-code c =
+    let args = c .before .before .before .before .before .before .before .before .before .before .before .before .before .before .before .before .before .before .args in
+    let pre = c .before .before .before .before .before .before .before .before .before .before .before .before .before .before .before .before .before .before .pre in
+    let gather = c .before .before .before .before .before .before .before .before .before .before .before .before .before .gather in
+    let answer = c .before .before .before .before .before .before .before .before .before .before .answer in
+    sym (length-take-le (answer .given .0 .0) (gather .last .1 .1 .0) (gathered-long (gathered-done (args .tree .now) (args .marks .now) (replicate 8191 0) (gather .last .1 .1 .0) (gather .result) (pre .0 .0) (pre .0 .1) (pre .0 .2) (pre .1) (zeros-length 8191) (gather .ensures) (answer .given .0 .0) (answer .given .0 .1 .0) (answer .given .1))))
 
--- src/lib.rt:141:5
 put-tree-code-requires : tie.Need-put-tree-code-requires
-put-tree-code-requires c κs = let D = gathered-done (c .before .before .before .before .before .before .before .before .before .before .before .before .before .before .before .before .before .before .before .args .tree .now) (c .before .before .before .before .before .before .before .before .before .before .before .before .before .before .before .before .before .before .before .args .marks .now) (replicate 8191 0) (c .before .before .before .before .before .before .before .before .before .before .before .before .before .before .gather .last .1 .1 .0) (c .before .before .before .before .before .before .before .before .before .before .before .before .before .before .gather .result) (c .before .before .before .before .before .before .before .before .before .before .before .before .before .before .before .before .before .before .before .pre .0 .0) (c .before .before .before .before .before .before .before .before .before .before .before .before .before .before .before .before .before .before .before .pre .0 .1) (c .before .before .before .before .before .before .before .before .before .before .before .before .before .before .before .before .before .before .before .pre .0 .2) (c .before .before .before .before .before .before .before .before .before .before .before .before .before .before .before .before .before .before .before .pre .1) (zeros-length 8191) (c .before .before .before .before .before .before .before .before .before .before .before .before .before .before .gather .ensures) (c .before .before .before .before .before .before .before .before .before .before .before .answer .given .0 .0) (c .before .before .before .before .before .before .before .before .before .before .before .answer .given .0 .1 .0) (c .before .before .before .before .before .before .before .before .before .before .before .answer .given .1) in
-    ((D .result, gathered-list D), omega (arith, run-line (D .result) (isIn (c .before .before .before .before .before .before .before .before .before .before .before .before .before .before .before .before .before .before .before .args .marks .now)) (c .before .before .before .before .before .before .before .before .before .before .before .answer .given .0 .1 .0) (D .gathered) (D .most) (take (c .before .before .before .before .before .before .before .before .before .before .before .answer .given .0 .0) (c .before .before .before .before .before .before .before .before .before .before .before .before .before .before .gather .last .1 .1 .0)) (gathered-list D .list) (c .before .before .before .before .before .before .before .before .run-of .result) (c .before .before .before .before .before .before .before .before .run-of .ensures), c .before .before .before .before .put-line2 .ensures .ends, c .before .before .before .before .put-line2 .ensures .same, c .before .before .before .before .before .before .before .before .before .before .before .before .before .before .before .before .before .before .before .pre .2))
+put-tree-code-requires c κs =
+    let args = c .before .before .before .before .before .before .before .before .before .before .before .before .before .before .before .before .before .before .before .args in
+    let pre = c .before .before .before .before .before .before .before .before .before .before .before .before .before .before .before .before .before .before .before .pre in
+    let gather = c .before .before .before .before .before .before .before .before .before .before .before .before .before .before .gather in
+    let answer = c .before .before .before .before .before .before .before .before .before .before .before .answer in
+    let run-of = c .before .before .before .before .before .before .before .before .run-of in
+    let put-line2 = c .before .before .before .before .put-line2 in
+    let D = gathered-done (args .tree .now) (args .marks .now) (replicate 8191 0) (gather .last .1 .1 .0) (gather .result) (pre .0 .0) (pre .0 .1) (pre .0 .2) (pre .1) (zeros-length 8191) (gather .ensures) (answer .given .0 .0) (answer .given .0 .1 .0) (answer .given .1) in
+    ((D .result, gathered-list D), omega (arith, run-line (D .result) (isIn (args .marks .now)) (answer .given .0 .1 .0) (D .gathered) (D .most) (take (answer .given .0 .0) (gather .last .1 .1 .0)) (gathered-list D .list) (run-of .result) (run-of .ensures), put-line2 .ensures .ends, put-line2 .ensures .same, pre .2))
 
--- src/lib.rt:130:1
 same-length-2 : tie.Need-same-length-2
 same-length-2 c = search needs
 
--- src/lib.rt:130:1
 returns-2 : tie.Need-returns-2
-returns-2 c = λ u w m. let D = gathered-done (c .before .before .before .before .before .before .before .before .before .before .before .before .before .before .before .before .before .before .before .before .before .before .args .tree .now) (c .before .before .before .before .before .before .before .before .before .before .before .before .before .before .before .before .before .before .before .before .before .before .args .marks .now) (replicate 8191 0) (c .before .before .before .before .before .before .before .before .before .before .before .before .before .before .before .before .before .gather .last .1 .1 .0) (c .before .before .before .before .before .before .before .before .before .before .before .before .before .before .before .before .before .gather .result) u w m (c .before .before .before .before .before .before .before .before .before .before .before .before .before .before .before .before .before .before .before .before .before .before .pre .1) (zeros-length 8191) (c .before .before .before .before .before .before .before .before .before .before .before .before .before .before .before .before .before .gather .ensures) (c .before .before .before .before .before .before .before .before .before .before .before .before .before .before .answer .given .0 .0) (c .before .before .before .before .before .before .before .before .before .before .before .before .before .before .answer .given .0 .1 .0) (c .before .before .before .before .before .before .before .before .before .before .before .before .before .before .answer .given .1) in
-    finished-held D (c .before .before .before .before .before .before .before .before .before .before .before .run-of .result) (c .before .before .before .before .before .before .before .before .before .before .before .run-of .ensures) (c .before .before .before .before .before .before .before .before .before .before .before .before .before .before .before .before .before .before .before .before .before .before .pre .1) (c .before .before .before .before .before .before .before .put-line2 .ensures) (c .before .before .put-tree-code .ensures (D .result) (gathered-list D))
+returns-2 c =
+    let args = c .before .before .before .before .before .before .before .before .before .before .before .before .before .before .before .before .before .before .before .before .before .before .args in
+    let pre = c .before .before .before .before .before .before .before .before .before .before .before .before .before .before .before .before .before .before .before .before .before .before .pre in
+    let gather = c .before .before .before .before .before .before .before .before .before .before .before .before .before .before .before .before .before .gather in
+    let answer = c .before .before .before .before .before .before .before .before .before .before .before .before .before .before .answer in
+    let run-of = c .before .before .before .before .before .before .before .before .before .before .before .run-of in
+    let put-line2 = c .before .before .before .before .before .before .before .put-line2 in
+    λ u w m. let D = gathered-done (args .tree .now) (args .marks .now) (replicate 8191 0) (gather .last .1 .1 .0) (gather .result) u w m (pre .1) (zeros-length 8191) (gather .ensures) (answer .given .0 .0) (answer .given .0 .1 .0) (answer .given .1) in
+    finished-held D (run-of .result) (run-of .ensures) (pre .1) (put-line2 .ensures) (c .before .before .put-tree-code .ensures (D .result) (gathered-list D))
 
 pub put-held-spec : {M : Type 1} → statement M
 put-held-spec =

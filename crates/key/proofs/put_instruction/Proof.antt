@@ -8,65 +8,67 @@ use Rattle.key.proofs.put_instruction.Reads as reads
 use Rattle.key.proofs.put_instruction.Lts as lts
 use Rattle.text.proofs.put_line.Reads as put-line-reads
 
--- src/lib.rt:20:31
 slice-aggregate-put-line : tie.Need-slice-aggregate-put-line
 slice-aggregate-put-line c = search needs
 
--- src/lib.rt:20:40
 slice-aggregate-put-line-2 : tie.Need-slice-aggregate-put-line-2
 slice-aggregate-put-line-2 c = search needs
 
--- src/lib.rt:20:9
 put-line-requires : tie.Need-put-line-requires
-put-line-requires c κs = let a = c .before .before .before .before .before .args in rw (load-text (a .kind) (a .target) (a .s) (a .t) (c .before .before .before .if1 .taken)) at (c .before .before .before .before .before .pre)
+put-line-requires c κs =
+    let pre = c .before .before .before .before .before .pre in
+    let if1 = c .before .before .before .if1 in
+    let a = c .before .before .before .before .before .args in rw (load-text (a .kind) (a .target) (a .s) (a .t) (if1 .taken)) at pre
 
--- src/lib.rt:20:9
 same-length : tie.Need-same-length
 same-length c = search needs
 
--- src/lib.rt:20:9
 returns : tie.Need-returns
-returns c = let a = c .before .before .before .before .before .before .before .before .args in wrote-as (c .before .before .put-line .ensures) (sym (load-text (a .kind) (a .target) (a .s) (a .t) (c .before .before .before .before .before .before .if1 .taken)))
+returns c =
+    let if1 = c .before .before .before .before .before .before .if1 in
+    let a = c .before .before .before .before .before .before .before .before .args in wrote-as (c .before .before .put-line .ensures) (sym (load-text (a .kind) (a .target) (a .s) (a .t) (if1 .taken)))
 
--- src/lib.rt:23:31
 slice-aggregate-put-line-3 : tie.Need-slice-aggregate-put-line-3
 slice-aggregate-put-line-3 c = search needs
 
--- src/lib.rt:23:39
 slice-aggregate-put-line-4 : tie.Need-slice-aggregate-put-line-4
 slice-aggregate-put-line-4 c = search needs
 
--- src/lib.rt:23:9
 put-line-requires-2 : tie.Need-put-line-requires-2
-put-line-requires-2 c κs = let a = c .before .before .before .before .before .before .args in rw (add-text (a .kind) (a .target) (a .s) (a .t) (c .before .before .before .if2 .taken)) at (c .before .before .before .before .before .before .pre)
+put-line-requires-2 c κs =
+    let pre = c .before .before .before .before .before .before .pre in
+    let if2 = c .before .before .before .if2 in
+    let a = c .before .before .before .before .before .before .args in rw (add-text (a .kind) (a .target) (a .s) (a .t) (if2 .taken)) at pre
 
--- src/lib.rt:23:9
 same-length-2 : tie.Need-same-length-2
 same-length-2 c = search needs
 
--- src/lib.rt:23:9
 returns-2 : tie.Need-returns-2
-returns-2 c = let a = c .before .before .before .before .before .before .before .before .before .args in wrote-as (c .before .before .put-line2 .ensures) (sym (add-text (a .kind) (a .target) (a .s) (a .t) (c .before .before .before .before .before .before .if2 .taken)))
+returns-2 c =
+    let if2 = c .before .before .before .before .before .before .if2 in
+    let a = c .before .before .before .before .before .before .before .before .before .args in wrote-as (c .before .before .put-line2 .ensures) (sym (add-text (a .kind) (a .target) (a .s) (a .t) (if2 .taken)))
 
--- src/lib.rt:25:20
 slice-aggregate-put-line-5 : tie.Need-slice-aggregate-put-line-5
 slice-aggregate-put-line-5 c = search needs
 
--- src/lib.rt:25:28
 slice-aggregate-put-line-6 : tie.Need-slice-aggregate-put-line-6
 slice-aggregate-put-line-6 c = search needs
 
--- src/lib.rt:25:5
 put-line-requires-3 : tie.Need-put-line-requires-3
-put-line-requires-3 c κs = let a = c .before .before .before .before .before .before .args in rw (cut-text (a .kind) (a .target) (a .s) (a .t) (c .before .before .before .before .if1 .left) (c .before .before .before .if2 .left)) at (c .before .before .before .before .before .before .pre)
+put-line-requires-3 c κs =
+    let pre = c .before .before .before .before .before .before .pre in
+    let if1 = c .before .before .before .before .if1 in
+    let if2 = c .before .before .before .if2 in
+    let a = c .before .before .before .before .before .before .args in rw (cut-text (a .kind) (a .target) (a .s) (a .t) (if1 .left) (if2 .left)) at pre
 
--- src/lib.rt:12:1
 same-length-3 : tie.Need-same-length-3
 same-length-3 c = search needs
 
--- src/lib.rt:12:1
 returns-3 : tie.Need-returns-3
-returns-3 c = let a = c .before .before .before .before .before .before .before .before .before .args in wrote-as (c .before .before .put-line3 .ensures) (sym (cut-text (a .kind) (a .target) (a .s) (a .t) (c .before .before .before .before .before .before .before .if1 .left) (c .before .before .before .before .before .before .if2 .left)))
+returns-3 c =
+    let if1 = c .before .before .before .before .before .before .before .if1 in
+    let if2 = c .before .before .before .before .before .before .if2 in
+    let a = c .before .before .before .before .before .before .before .before .before .args in wrote-as (c .before .before .put-line3 .ensures) (sym (cut-text (a .kind) (a .target) (a .s) (a .t) (if1 .left) (if2 .left)))
 
 pub put-instruction-spec : {M : Type 1} → statement M
 put-instruction-spec =

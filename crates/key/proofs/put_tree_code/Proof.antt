@@ -14,55 +14,68 @@ use Rattle.key.proofs.put_tree_code.Lts as lts
 use Rattle.coder.proofs.encode.Reads as encode-reads
 use Rattle.key.proofs.put_code.Reads as put-code-reads
 
--- src/lib.rt:58:37
 slice-aggregate-encode : tie.Need-slice-aggregate-encode
 slice-aggregate-encode c = search needs
 
--- src/lib.rt:58:9
 encode-requires : tie.Need-encode-requires
 encode-requires c κs = search needs
 
--- src/lib.rt:59:28
 enum-known-coded : tie.Need-enum-known-coded
 enum-known-coded c = search needs
 
--- src/lib.rt:60:9
 enum-told : tie.Need-enum-told
 enum-told c = search needs
 
--- src/lib.rt:60:9
 returns : tie.Need-returns
-returns c = λ u w. encoded-not (c .before .before .before .before .before .before .before .args .tree .now) (replicate 32764 0) (c .before .before .before .encode .result) (c .before .before .before .encode .last .1 .0) u w (zeros-length 32764) (c .before .before .before .encode .ensures) (c .enum-told .given .0 .0) (c .enum-told .given .1)
+returns c =
+    let args = c .before .before .before .before .before .before .before .args in
+    let encode = c .before .before .before .encode in
+    λ u w. encoded-not (args .tree .now) (replicate 32764 0) (encode .result) (encode .last .1 .0) u w (zeros-length 32764) (encode .ensures) (c .enum-told .given .0 .0) (c .enum-told .given .1)
 
--- src/lib.rt:62:22
 mul-code : tie.Need-mul-code
-mul-code c = let p = c .before .before .before .before .before .before .before .before .pre .0 in
-    let e = encoded (c .before .before .before .before .before .before .before .before .args .tree .now) (replicate 32764 0) (c .before .before .before .before .encode .result) (c .before .before .before .before .encode .last .1 .0) (p .0) (p .1) (zeros-length 32764) (c .before .before .before .before .encode .ensures) (c .before .coded .given .0 .0) (c .before .coded .given .1) in
+mul-code c =
+    let pre = c .before .before .before .before .before .before .before .before .pre in
+    let args = c .before .before .before .before .before .before .before .before .args in
+    let encode = c .before .before .before .before .encode in
+    let p = pre .0 in
+    let e = encoded (args .tree .now) (replicate 32764 0) (encode .result) (encode .last .1 .0) (p .0) (p .1) (zeros-length 32764) (encode .ensures) (c .before .coded .given .0 .0) (c .before .coded .given .1) in
     omega (arith, e .small)
 
--- src/lib.rt:62:14
 array-share-prefix-code : tie.Need-array-share-prefix-code
-array-share-prefix-code c = let p = c .before .before .before .before .before .before .before .before .pre .0 in
-    encoded (c .before .before .before .before .before .before .before .before .args .tree .now) (replicate 32764 0) (c .before .before .before .before .encode .result) (c .before .before .before .before .encode .last .1 .0) (p .0) (p .1) (zeros-length 32764) (c .before .before .before .before .encode .ensures) (c .before .coded .given .0 .0) (c .before .coded .given .1) .long
+array-share-prefix-code c =
+    let pre = c .before .before .before .before .before .before .before .before .pre in
+    let args = c .before .before .before .before .before .before .before .before .args in
+    let encode = c .before .before .before .before .encode in
+    let p = pre .0 in
+    encoded (args .tree .now) (replicate 32764 0) (encode .result) (encode .last .1 .0) (p .0) (p .1) (zeros-length 32764) (encode .ensures) (c .before .coded .given .0 .0) (c .before .coded .given .1) .long
 
--- src/lib.rt:62:14
 slice-aggregate-put-code : tie.Need-slice-aggregate-put-code
-slice-aggregate-put-code c = let p = c .before .before .before .before .before .before .before .before .before .pre .0 in
-    sym (length-take-le (4 * c .before .before .coded .given .0 .0) (c .before .before .before .before .before .encode .last .1 .0) (encoded (c .before .before .before .before .before .before .before .before .before .args .tree .now) (replicate 32764 0) (c .before .before .before .before .before .encode .result) (c .before .before .before .before .before .encode .last .1 .0) (p .0) (p .1) (zeros-length 32764) (c .before .before .before .before .before .encode .ensures) (c .before .before .coded .given .0 .0) (c .before .before .coded .given .1) .long))
+slice-aggregate-put-code c =
+    let pre = c .before .before .before .before .before .before .before .before .before .pre in
+    let args = c .before .before .before .before .before .before .before .before .before .args in
+    let encode = c .before .before .before .before .before .encode in
+    let p = pre .0 in
+    sym (length-take-le (4 * c .before .before .coded .given .0 .0) (encode .last .1 .0) (encoded (args .tree .now) (replicate 32764 0) (encode .result) (encode .last .1 .0) (p .0) (p .1) (zeros-length 32764) (encode .ensures) (c .before .before .coded .given .0 .0) (c .before .before .coded .given .1) .long))
 
--- src/lib.rt:62:5
 put-code-requires : tie.Need-put-code-requires
-put-code-requires c κs = let p = c .before .before .before .before .before .before .before .before .before .before .pre .0 in
-    let e = encoded (c .before .before .before .before .before .before .before .before .before .before .args .tree .now) (replicate 32764 0) (c .before .before .before .before .before .before .encode .result) (c .before .before .before .before .before .before .encode .last .1 .0) (p .0) (p .1) (zeros-length 32764) (c .before .before .before .before .before .before .encode .ensures) (c .before .before .before .coded .given .0 .0) (c .before .before .before .coded .given .1) in
-    omega (arith, e .room, c .before .before .before .before .before .before .before .before .before .before .pre .1)
+put-code-requires c κs =
+    let pre = c .before .before .before .before .before .before .before .before .before .before .pre in
+    let args = c .before .before .before .before .before .before .before .before .before .before .args in
+    let encode = c .before .before .before .before .before .before .encode in
+    let coded = c .before .before .before .coded in
+    let p = pre .0 in
+    let e = encoded (args .tree .now) (replicate 32764 0) (encode .result) (encode .last .1 .0) (p .0) (p .1) (zeros-length 32764) (encode .ensures) (coded .given .0 .0) (coded .given .1) in
+    omega (arith, e .room, pre .1)
 
--- src/lib.rt:53:1
 same-length : tie.Need-same-length
 same-length c = search needs
 
--- src/lib.rt:53:1
 returns-2 : tie.Need-returns-2
-returns-2 c = λ u w. wrote-as (c .before .before .put-code .ensures) (encoded (c .before .before .before .before .before .before .before .before .before .before .before .before .before .args .tree .now) (replicate 32764 0) (c .before .before .before .before .before .before .before .before .before .encode .result) (c .before .before .before .before .before .before .before .before .before .encode .last .1 .0) u w (zeros-length 32764) (c .before .before .before .before .before .before .before .before .before .encode .ensures) (c .before .before .before .before .before .before .coded .given .0 .0) (c .before .before .before .before .before .before .coded .given .1) .text)
+returns-2 c =
+    let args = c .before .before .before .before .before .before .before .before .before .before .before .before .before .args in
+    let encode = c .before .before .before .before .before .before .before .before .before .encode in
+    let coded = c .before .before .before .before .before .before .coded in
+    λ u w. wrote-as (c .before .before .put-code .ensures) (encoded (args .tree .now) (replicate 32764 0) (encode .result) (encode .last .1 .0) u w (zeros-length 32764) (encode .ensures) (coded .given .0 .0) (coded .given .1) .text)
 
 pub put-tree-code-spec : {M : Type 1} → statement M
 put-tree-code-spec =

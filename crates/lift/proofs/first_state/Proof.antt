@@ -21,7 +21,9 @@ First c a k =
 
 first : (c : tie.After-known-told) (a : Tree) (k : List Frame) → let g = c .before .before .before .before .before .args in
     Part (g .list .now) (g .part .from) (g .part .to) a k → First c a k
-first c a k P = grow _ _ _ a k _ _ _ P (sym (c .before .own .given .1) ∙ c .before .before .before .frame-above .ensures a k P)
+first c a k P =
+    let frame-above = c .before .before .before .frame-above in
+    grow _ _ _ a k _ _ _ P (sym (c .before .own .given .1) ∙ frame-above .ensures a k P)
 
 abbrev Second : (c : tie.After-known-told2) (a : Tree) (k : List Frame) → First (c .before .before .before .before) a k → Type 0
 Second c a k G =
@@ -31,7 +33,9 @@ Second c a k G =
     Grown (o .before .before .before .before .before .args .list .now) (p .from) (p .to) (sided (G .side) (node (G .operator)) a (G .sibling)) (G .rest) (v .0) (v .1 .0) (v .1 .1 .0)
 
 second : (c : tie.After-known-told2) (a : Tree) (k : List Frame) (G : First (c .before .before .before .before) a k) → Second c a k G
-second c a k G = grow _ _ _ _ _ _ _ _ (G .parent) (sym (c .before .parent-kind .given .1) ∙ c .before .before .before .frame-above2 .ensures _ _ (G .parent))
+second c a k G =
+    let frame-above2 = c .before .before .before .frame-above2 in
+    grow _ _ _ _ _ _ _ _ (G .parent) (sym (c .before .parent-kind .given .1) ∙ frame-above2 .ensures _ _ (G .parent))
 
 frame-above-requires : tie.Need-frame-above-requires
 frame-above-requires c κs = search needs
@@ -60,14 +64,18 @@ returns-2 c = λ a k P.
     subst (λ (x : List Frame). StateIs x 0) (sym (G .is ∙ ap (λ (r : List Frame). frame (G .side) (G .operator) (G .sibling) ∷ r) (is-nil _ _ (G .rest) (sym (c .enum-told2 .given .1) ∙ c .before .before .frame-above2 .ensures _ _ (G .parent))))) tt
 
 state-of-requires : tie.Need-state-of-requires
-state-of-requires c κs = let p = c .before .before .before .before .before .before .before .before .before .pre in
-    let G = first (c .before .before .before .before) (p .0) (p .1) (p .2) in
+state-of-requires c κs =
+    let before = c .before .before .before .before in
+    let p = before .before .before .before .before .before .pre in
+    let G = first before (p .0) (p .1) (p .2) in
     let H = second c (p .0) (p .1) G in
     omega (arith, G .kind, H .kind, kind-small (G .side) (G .operator), kind-small (H .side) (H .operator))
 
 returns-3 : tie.Need-returns-3
-returns-3 c = λ a k P.
-    let G = first (c .before .before .before .before .before) a k P in
+returns-3 c =
+    let before = c .before .before .before .before .before in
+    λ a k P.
+    let G = first before a k P in
     let H = second (c .before) a k G in
     subst (λ (x : List Frame). StateIs x (c .state-of .result)) (sym (G .is ∙ ap (λ (r : List Frame). frame (G .side) (G .operator) (G .sibling) ∷ r) (H .is)))
     (c .state-of .ensures (G .side) (G .operator) (H .side) (H .operator) (G .kind) (H .kind))

@@ -18,7 +18,9 @@ returns : tie.Need-returns
 returns c = λ a k P. ap framedAs (sym (c .enum-told .given .1) ∙ c .before .before .above-part .ensures a k P)
 
 returns-2 : tie.Need-returns-2
-returns-2 c = λ a k P. ap framedAs (sym (c .before .kind .given .1) ∙ c .before .before .before .above-part .ensures a k P)
+returns-2 c =
+    let above-part = c .before .before .before .above-part in
+    λ a k P. ap framedAs (sym (c .before .kind .given .1) ∙ above-part .ensures a k P)
 
 pub frame-above-spec : {M : Type 1} → statement M
 frame-above-spec =

@@ -33,7 +33,10 @@ loop-less : tie.Need-loop-less Inv-loop μ-loop
 loop-less c = search needs
 
 loop-again : tie.Need-loop-again Inv-loop μ-loop
-loop-again c = let l = c .before .before .before .before .loop in omega (arith, rises-up (c .before .before .before .before .before .args .list .now) (l .i) (l .operands) (c .before .before .before .loop-test .taken) (c .before .if1 .taken) (c .if2 .taken))
+loop-again c =
+    let args = c .before .before .before .before .before .args in
+    let loop-test = c .before .before .before .loop-test in
+    let l = c .before .before .before .before .loop in omega (arith, rises-up (args .list .now) (l .i) (l .operands) (loop-test .taken) (c .before .if1 .taken) (c .if2 .taken))
 
 sub-operands : tie.Need-sub-operands Inv-loop μ-loop
 sub-operands c = search needs
@@ -45,7 +48,10 @@ loop-less-2 : tie.Need-loop-less-2 Inv-loop μ-loop
 loop-less-2 c = search needs
 
 loop-again-2 : tie.Need-loop-again-2 Inv-loop μ-loop
-loop-again-2 c = let l = c .before .before .before .before .loop in omega (arith, rises-operator (c .before .before .before .before .before .args .list .now) (l .i) (l .operands) (c .before .before .before .loop-test .taken) (c .before .if1 .taken) (c .if2 .left))
+loop-again-2 c =
+    let args = c .before .before .before .before .before .args in
+    let loop-test = c .before .before .before .loop-test in
+    let l = c .before .before .before .before .loop in omega (arith, rises-operator (args .list .now) (l .i) (l .operands) (loop-test .taken) (c .before .if1 .taken) (c .if2 .left))
 
 add-operands : tie.Need-add-operands Inv-loop μ-loop
 add-operands c = search needs
@@ -57,7 +63,9 @@ loop-less-3 : tie.Need-loop-less-3 Inv-loop μ-loop
 loop-less-3 c = search needs
 
 loop-again-3 : tie.Need-loop-again-3 Inv-loop μ-loop
-loop-again-3 c = let l = c .before .before .before .loop in omega (arith, rises-leaf (c .before .before .before .before .args .list .now) (l .i) (l .operands) (c .before .before .loop-test .taken) (c .if1 .left))
+loop-again-3 c =
+    let args = c .before .before .before .before .args in
+    let l = c .before .before .before .loop in omega (arith, rises-leaf (args .list .now) (l .i) (l .operands) (c .before .before .loop-test .taken) (c .if1 .left))
 
 returns : tie.Need-returns Inv-loop μ-loop
 returns c = let l = c .before .loop in

@@ -13,7 +13,9 @@ use Rattle.lift.proofs.lift.Tie as tie
 
 -- the tree, where the test of `is_tree` was passed
 given : (c : tie.Then2) → IsTree (c .before .before .before .before .before .args .tree .now)
-given c = the-tree (c .before .before .before .before .before .args .tree .now) (sym (c .before .is-tree .ensures) ∙ c .if2 .taken)
+given c =
+    let args = c .before .before .before .before .before .args in
+    the-tree (args .tree .now) (sym (c .before .is-tree .ensures) ∙ c .if2 .taken)
 
 returns : tie.Need-returns
 returns c = let g = c .before .before .before .args in
@@ -24,8 +26,10 @@ is-tree-requires : tie.Need-is-tree-requires
 is-tree-requires c κs = search needs
 
 returns-2 : tie.Need-returns-2
-returns-2 c = let g = c .before .before .before .before .before .before .args in
-    let e = says-13 (length (g .out .now)) (g .tree .now) (g .position) (g .levels) (c .before .before .before .if1 .left) (given (c .before)) (c .if3 .taken) in
+returns-2 c =
+    let if1 = c .before .before .before .if1 in
+    let g = c .before .before .before .before .before .before .args in
+    let e = says-13 (length (g .out .now)) (g .tree .now) (g .position) (g .levels) (if1 .left) (given (c .before)) (c .if3 .taken) in
     (sym (ap answer e), sym (ap (λ (x : Result). buffer x (g .out .now)) e))
 
 add-to : tie.Need-add-to
@@ -35,28 +39,40 @@ level-of-requires : tie.Need-level-of-requires
 level-of-requires c κs = search needs
 
 returns-3 : tie.Need-returns-3
-returns-3 c = let g = c .before .before .before .before .before .before .before .before .args in
+returns-3 c =
+    let if1 = c .before .before .before .before .before .if1 in
+    let g = c .before .before .before .before .before .before .before .before .args in
     let W = given (c .before .before .before) in
     let q = c .before .before .if3 .left in
-    let P = the-part (length (g .out .now)) (g .tree .now) (g .position) (g .levels) (c .before .before .before .before .before .if1 .left) W q in
-    let e = says-14 (length (g .out .now)) (g .tree .now) (g .position) (g .levels) (c .before .before .before .before .before .if1 .left) W q (c .before .level-of .result) (c .before .level-of .ensures .0 _ _ _ P) (c .if4 .taken) in
+    let P = the-part (length (g .out .now)) (g .tree .now) (g .position) (g .levels) (if1 .left) W q in
+    let e = says-14 (length (g .out .now)) (g .tree .now) (g .position) (g .levels) (if1 .left) W q (c .before .level-of .result) (c .before .level-of .ensures .0 _ _ _ P) (c .if4 .taken) in
     (sym (ap answer e), sym (ap (λ (x : Result). buffer x (g .out .now)) e))
 
 lift-part-requires : tie.Need-lift-part-requires
-lift-part-requires c κs = let g = c .before .before .before .before .before .before .before .before .before .args in
-    let W = given (c .before .before .before .before) in
-    let P = the-part (length (g .out .now)) (g .tree .now) (g .position) (g .levels) (c .before .before .before .before .before .before .if1 .left) W (c .before .before .before .if3 .left) in
-    ((_, _, _, P, c .before .before .level-of .ensures .0 _ _ _ P), ((omega (arith, ap length (W .list), postfix-length (W .tree), W .most), c .before .before .before .before .before .before .if1 .left), levels-below (g .levels) (c .before .before .level-of .result) (c .before .if4 .left)))
+lift-part-requires c κs =
+    let if1 = c .before .before .before .before .before .before .if1 in
+    let before = c .before .before .before .before in
+    let if3 = c .before .before .before .if3 in
+    let g = before .before .before .before .before .before .args in
+    let W = given before in
+    let P = the-part (length (g .out .now)) (g .tree .now) (g .position) (g .levels) (if1 .left) W (if3 .left) in
+    ((_, _, _, P, c .before .before .level-of .ensures .0 _ _ _ P), ((omega (arith, ap length (W .list), postfix-length (W .tree), W .most), if1 .left), levels-below (g .levels) (c .before .before .level-of .result) (c .before .if4 .left)))
 
 same-length : tie.Need-same-length
 same-length c = search needs
 
 returns-4 : tie.Need-returns-4
-returns-4 c = let g = c .before .before .before .before .before .before .before .before .before .before .before .before .args in
-    let W = given (c .before .before .before .before .before .before .before) in
-    let q = c .before .before .before .before .before .before .if3 .left in
-    let P = the-part (length (g .out .now)) (g .tree .now) (g .position) (g .levels) (c .before .before .before .before .before .before .before .before .before .if1 .left) W q in
-    let e = runs-on (length (g .out .now)) (g .tree .now) (g .position) (g .levels) (c .before .before .before .before .before .before .before .before .before .if1 .left) W q (c .before .before .before .before .before .level-of .result) (c .before .before .before .before .before .level-of .ensures .0 _ _ _ P) (c .before .before .before .before .if4 .left) in
+returns-4 c =
+    let if1 = c .before .before .before .before .before .before .before .before .before .if1 in
+    let before = c .before .before .before .before .before .before .before in
+    let if3 = c .before .before .before .before .before .before .if3 in
+    let level-of = c .before .before .before .before .before .level-of in
+    let if4 = c .before .before .before .before .if4 in
+    let g = before .before .before .before .before .before .args in
+    let W = given before in
+    let q = if3 .left in
+    let P = the-part (length (g .out .now)) (g .tree .now) (g .position) (g .levels) (if1 .left) W q in
+    let e = runs-on (length (g .out .now)) (g .tree .now) (g .position) (g .levels) (if1 .left) W q (level-of .result) (level-of .ensures .0 _ _ _ P) (if4 .left) in
     let r = c .before .before .lift-part .ensures _ _ _ P in
     (r .answers ∙ sym (ap answer e), r .leaves ∙ sym (ap (λ (x : Result). buffer x (g .out .now)) e))
 

@@ -32,7 +32,9 @@ part-start-requires : tie.Need-part-start-requires
 part-start-requires c κs = omega (arith, part-length (c .before .before .pre .0 .3))
 
 first-state-requires : tie.Need-first-state-requires
-first-state-requires c κs = let L = c .before .before .before .pre .0 in (_, _, from-start c (L .0) (L .1) (L .2) (L .3))
+first-state-requires c κs =
+    let pre = c .before .before .before .pre in
+    let L = pre .0 in (_, _, from-start c (L .0) (L .1) (L .2) (L .3))
 
 slice-aggregate-copy : tie.Need-slice-aggregate-copy
 slice-aggregate-copy c = search needs
@@ -47,15 +49,20 @@ slice-aggregate-run-2 : tie.Need-slice-aggregate-run-2
 slice-aggregate-run-2 c = search needs
 
 run-requires : tie.Need-run-requires
-run-requires c κs = let g = c .before .before .before .before .before .before .before .before .before .before in
+run-requires c κs =
+    let before = c .before .before .before .before in
+    let g = before .before .before .before .before .before .before in
     let L = g .pre .0 in
-    ((_, _, stands (c .before .before .before .before) (L .0) (L .1) (L .2) (L .3)), ((g .pre .1 .0 .0, search needs), ((omega arith, g .pre .1 .0 .1), (g .pre .1 .1, omega (arith, g .pre .1 .1, L .4, level-within (L .3), g .pre .1 .0 .0)))))
+    ((_, _, stands before (L .0) (L .1) (L .2) (L .3)), ((g .pre .1 .0 .0, search needs), ((omega arith, g .pre .1 .0 .1), (g .pre .1 .1, omega (arith, g .pre .1 .1, L .4, level-within (L .3), g .pre .1 .0 .0)))))
 
 same-length : tie.Need-same-length
 same-length c = search needs
 
 returns : tie.Need-returns
-returns c = λ from a k P. c .before .before .before .before .run .ensures a k (stands (c .before .before .before .before .before .before .before .before .before) from a k P)
+returns c =
+    let before = c .before .before .before .before .before .before .before .before .before in
+    let run = c .before .before .before .before .run in
+    λ from a k P. run .ensures a k (stands before from a k P)
 
 pub lift-part-spec : {M : Type 1} → statement M
 lift-part-spec =

@@ -8,27 +8,21 @@ use borrow.Author.Needs.{needs}
 use Rattle.lift.proofs.move_word.Statement.{statement}
 use Rattle.lift.proofs.move_word.Tie as tie
 
--- src/lib.rt:183:21
 sub-row : tie.Need-sub-row
 sub-row c = search needs
 
--- src/lib.rt:183:15
 mul-row : tie.Need-mul-row
 mul-row c = search needs
 
--- src/lib.rt:183:15
 array-copy-out-row : tie.Need-array-copy-out-row
 array-copy-out-row c = search needs
 
--- src/lib.rt:184:5
 mul-result : tie.Need-mul-result
 mul-result c = search needs
 
--- src/lib.rt:184:5
 array-copy-out-result : tie.Need-array-copy-out-result
 array-copy-out-result c = search needs
 
--- src/lib.rt:179:1
 returns : tie.Need-returns
 returns c = λ x i. entry-at (λ x i. padded (word (entryOf (moveOf x) i))) [] x i (c .before .before .args .state) (c .before .before .args .input)
 

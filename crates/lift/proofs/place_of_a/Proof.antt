@@ -23,7 +23,9 @@ shared-slice-read-if1 : tie.Need-shared-slice-read-if1 Inv-loop μ-loop
 shared-slice-read-if1 c = search needs
 
 returns : tie.Need-returns Inv-loop μ-loop
-returns c = let l = c .before .before .before .loop in (l .inv .0, leading-at (c .before .before .before .before .args .word .now) (l .i) (c .before .before .loop-test .taken) (l .inv .1) (c .if1 .taken))
+returns c =
+    let args = c .before .before .before .before .args in
+    let l = c .before .before .before .loop in (l .inv .0, leading-at (args .word .now) (l .i) (c .before .before .loop-test .taken) (l .inv .1) (c .if1 .taken))
 
 add-i : tie.Need-add-i Inv-loop μ-loop
 add-i c = search needs
@@ -32,7 +34,9 @@ loop-less : tie.Need-loop-less Inv-loop μ-loop
 loop-less c = search needs
 
 loop-again : tie.Need-loop-again Inv-loop μ-loop
-loop-again c = let l = c .before .before .before .loop in (omega (arith, c .before .before .loop-test .taken), leading-more (c .before .before .before .before .args .word .now) (l .i) (c .before .before .loop-test .taken) (l .inv .1) (c .if1 .left))
+loop-again c =
+    let args = c .before .before .before .before .args in
+    let l = c .before .before .before .loop in (omega (arith, c .before .before .loop-test .taken), leading-more (args .word .now) (l .i) (c .before .before .loop-test .taken) (l .inv .1) (c .if1 .left))
 
 returns-2 : tie.Need-returns-2 Inv-loop μ-loop
 returns-2 c = let l = c .before .loop in (l .inv .0, leading-all (c .before .before .args .word .now) (l .i) (c .loop-test .left) (l .inv .1))

@@ -38,7 +38,9 @@ place-of-a-requires : tie.Need-place-of-a-requires
 place-of-a-requires c κs = search needs
 
 slice-aggregate-word-width : tie.Need-slice-aggregate-word-width
-slice-aggregate-word-width c = sym (length-take-le (c .before .place-of-a .result) (c .before .before .before .before .before .before .before .args .word .now) (c .before .place-of-a .ensures .0))
+slice-aggregate-word-width c =
+    let args = c .before .before .before .before .before .before .before .args in
+    sym (length-take-le (c .before .place-of-a .result) (args .word .now) (c .before .place-of-a .ensures .0))
 
 word-width-requires-2 : tie.Need-word-width-requires-2
 word-width-requires-2 c κs = let g = c .before .before .before .before .before .before .before in
@@ -48,15 +50,18 @@ add-start : tie.Need-add-start
 add-start c = search needs
 
 write-replaced-requires : tie.Need-write-replaced-requires
-write-replaced-requires c κs = let g = c .before .before .before .before .before .before .before .before .before in
+write-replaced-requires c κs =
+    let word-width = c .before .before .before .before .before .word-width in
+    let if1 = c .before .before .before .before .if1 in
+    let g = c .before .before .before .before .before .before .before .before .before in
     let v = g .args in (
       g .pre .0,
       (
         g .pre .1 .0,
         omega (
           arith,
-          c .before .before .before .before .if1 .left,
-          c .before .before .before .before .before .word-width .ensures .0 (v .list .now) (g .pre .0),
+          if1 .left,
+          word-width .ensures .0 (v .list .now) (g .pre .0),
           g .pre .1 .1 .0,
           replaced-length (v .list .now) (v .from) (v .to) (v .word .now) (v .whole) (v .end) (g .pre .1 .0 .0) (g .pre .1 .0 .1),
         ),
@@ -67,12 +72,17 @@ same-length : tie.Need-same-length
 same-length c = search needs
 
 returns-2 : tie.Need-returns-2
-returns-2 c = let g = c .before .before .before .before .before .before .before .before .before .before .before .before in
+returns-2 c =
+    let word-width = c .before .before .before .before .before .before .before .before .word-width in
+    let if1 = c .before .before .before .before .before .before .before .if1 in
+    let place-of-a = c .before .before .before .before .before .before .place-of-a in
+    let word-width2 = c .before .before .before .before .word-width2 in
+    let g = c .before .before .before .before .before .before .before .before .before .before .before .before in
     let v = g .args in
     is-replaced (v .list .now) (v .from) (v .to) (v .word .now) (v .whole) (v .end) (v .input) _ _ (c .before .before .write-replaced .result) (v .out .now) _
-    (omega (arith, c .before .before .before .before .before .before .before .before .word-width .ensures .0 (v .list .now) (g .pre .0), replaced-length (v .list .now) (v .from) (v .to) (v .word .now) (v .whole) (v .end) (g .pre .1 .0 .0) (g .pre .1 .0 .1)))
-    (c .before .before .before .before .before .before .before .if1 .left) (g .pre .1 .1 .0 .1)
-    (ap (λ (n : ℕ). v .whole + n) (c .before .before .before .before .word-width2 .ensures .0 (v .list .now) (g .pre .0) ∙ ap (λ (w : List ℕ). length (spell (v .list .now) (v .from) (v .to) w)) (c .before .before .before .before .before .before .place-of-a .ensures .1)))
+    (omega (arith, word-width .ensures .0 (v .list .now) (g .pre .0), replaced-length (v .list .now) (v .from) (v .to) (v .word .now) (v .whole) (v .end) (g .pre .1 .0 .0) (g .pre .1 .0 .1)))
+    (if1 .left) (g .pre .1 .1 .0 .1)
+    (ap (λ (n : ℕ). v .whole + n) (word-width2 .ensures .0 (v .list .now) (g .pre .0) ∙ ap (λ (w : List ℕ). length (spell (v .list .now) (v .from) (v .to) w)) (place-of-a .ensures .1)))
     (c .before .before .write-replaced .ensures)
 
 pub replace-spec : {M : Type 1} → statement M

@@ -20,8 +20,10 @@ same-length : tie.Need-same-length
 same-length c = search needs
 
 returns : tie.Need-returns
-returns c = λ x i e f. let g = c .before .before .before .before .before .before .before .before .args in
-    subst (λ (w : List ℕ). Replaced (g .list .now) (g .from) (g .to) w (g .whole) (g .end) (g .input) (g .out .now) (c .before .before .replace .result) (c .before .before .replace .last .1 .1 .1 .1 .1 .1 .1 .0)) (c .before .before .before .before .before .move-word .ensures x i e f) (c .before .before .replace .ensures)
+returns c =
+    let move-word = c .before .before .before .before .before .move-word in
+    λ x i e f. let g = c .before .before .before .before .before .before .before .before .args in
+    subst (λ (w : List ℕ). Replaced (g .list .now) (g .from) (g .to) w (g .whole) (g .end) (g .input) (g .out .now) (c .before .before .replace .result) (c .before .before .replace .last .1 .1 .1 .1 .1 .1 .1 .0)) (move-word .ensures x i e f) (c .before .before .replace .ensures)
 
 pub replace-by-move-spec : {M : Type 1} → statement M
 replace-by-move-spec =

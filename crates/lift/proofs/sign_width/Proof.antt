@@ -40,8 +40,10 @@ returns-3 : tie.Need-returns-3
 returns-3 c = let g = c .before .before .before .before .args in (λ l h. sym (ap length (sign-difference l (g .t1) (g .t2) (g .sign) (c .if3 .taken))), omega arith)
 
 returns-4 : tie.Need-returns-4
-returns-4 c = let g = c .before .before .before .before .args in
-    (λ l h. sym (ap length (sign-nothing l (g .t1) (g .t2) (g .sign) (c .before .before .before .part-of .result) (c .before .before .before .part-of .ensures) (c .before .before .if1 .left) (c .before .if2 .left) (c .if3 .left))), omega arith)
+returns-4 c =
+    let part-of = c .before .before .before .part-of in
+    let g = c .before .before .before .before .args in
+    (λ l h. sym (ap length (sign-nothing l (g .t1) (g .t2) (g .sign) (part-of .result) (part-of .ensures) (c .before .before .if1 .left) (c .before .if2 .left) (c .if3 .left))), omega arith)
 
 pub sign-width-spec : {M : Type 1} → statement M
 sign-width-spec =

@@ -25,10 +25,15 @@ shared-slice-read-sign : tie.Need-shared-slice-read-sign Inv-loop μ-loop
 shared-slice-read-sign c = search needs
 
 sign-width-requires : tie.Need-sign-width-requires Inv-loop μ-loop
-sign-width-requires c κs = c .before .before .before .before .pre .0
+sign-width-requires c κs =
+    let pre = c .before .before .before .before .pre in
+    pre .0
 
 add-width : tie.Need-add-width Inv-loop μ-loop
-add-width c = omega (arith, c .sign-width .ensures .1, c .before .before .before .loop .inv .1, c .before .before .before .before .before .pre .1)
+add-width c =
+    let pre = c .before .before .before .before .before .pre in
+    let loop = c .before .before .before .loop in
+    omega (arith, c .sign-width .ensures .1, loop .inv .1, pre .1)
 
 add-i : tie.Need-add-i Inv-loop μ-loop
 add-i c = search needs
@@ -45,10 +50,12 @@ loop-again c = let g = c .before .before .before .before .before .args in
     )
 
 returns : tie.Need-returns Inv-loop μ-loop
-returns c = let g = c .before .before .before .args in
+returns c =
+    let pre = c .before .before .before .pre in
+    let g = c .before .before .before .args in
     let l = c .before .loop in (
       λ m h. l .inv .2 m h ∙ ap (λ (w : List ℕ). length (spell m (g .from) (g .to) w)) (take-all (l .i) (g .word .now) (c .loop-test .left)),
-      omega (arith, l .inv .0, l .inv .1, c .before .before .before .pre .1),
+      omega (arith, l .inv .0, l .inv .1, pre .1),
     )
 
 pub word-width-spec : {M : Type 1} → statement M

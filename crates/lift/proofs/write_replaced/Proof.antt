@@ -70,8 +70,11 @@ same-length c = search needs
 
 returns : tie.Need-returns
 unfolding replaced
-returns c = let g = c .before .before .before .before .before .before .before .before .before .before .before .before .before .before .before .before .before in
-    wrote-as (wrote-then (c .before .before .before .before .before .before .before .before .before .before .before .copy .ensures) (wrote-then (c .before .before .before .before .before .before .before .write-word .ensures) (c .before .before .copy2 .ensures)))
+returns c =
+    let copy = c .before .before .before .before .before .before .before .before .before .before .before .copy in
+    let write-word = c .before .before .before .before .before .before .before .write-word in
+    let g = c .before .before .before .before .before .before .before .before .before .before .before .before .before .before .before .before .before in
+    wrote-as (wrote-then (copy .ensures) (wrote-then (write-word .ensures) (c .before .before .copy2 .ensures)))
     (ap (λ (x : List ℕ). take (g .args .whole) (g .args .list .now) ++ (spell (g .args .list .now) (g .args .from) (g .args .to) (g .args .word .now) ++ x)) (rest-of (g .args .list .now) (g .args .end) (g .pre .1 .0 .1)))
 
 pub write-replaced-spec : {M : Type 1} → statement M

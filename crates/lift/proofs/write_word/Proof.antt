@@ -20,7 +20,9 @@ abbrev μ-loop : tie.MeasureT-loop
 
 loop-holds : tie.Need-loop-holds Inv-loop μ-loop
 unfolding spell
-loop-holds c = (omega arith, wrote-nothing (c .before .before .before .args .out .now) (c .before .before .before .args .at))
+loop-holds c =
+    let args = c .before .before .before .args in
+    (omega arith, wrote-nothing (args .out .now) (args .at))
 
 shared-slice-read-sign : tie.Need-shared-slice-read-sign Inv-loop μ-loop
 shared-slice-read-sign c = search needs
@@ -46,10 +48,12 @@ loop-less : tie.Need-loop-less Inv-loop μ-loop
 loop-less c = search needs
 
 loop-again : tie.Need-loop-again Inv-loop μ-loop
-loop-again c = let g = c .before .before .before .before .before .before .before .before .before .before .args in
+loop-again c =
+    let loop-test = c .before .before .before .before .before .loop-test in
+    let g = c .before .before .before .before .before .before .before .before .before .before .args in
     let l = c .before .before .before .before .before .before .loop in (
-      omega (arith, c .before .before .before .before .before .loop-test .taken),
-      wrote-as (wrote-then (l .inv .1) (c .before .before .write-sign .ensures)) (sym (spell-more (g .list .now) (g .from) (g .to) (g .word .now) (l .i) (c .before .before .before .before .before .loop-test .taken))),
+      omega (arith, loop-test .taken),
+      wrote-as (wrote-then (l .inv .1) (c .before .before .write-sign .ensures)) (sym (spell-more (g .list .now) (g .from) (g .to) (g .word .now) (l .i) (loop-test .taken))),
     )
 
 same-length : tie.Need-same-length Inv-loop μ-loop

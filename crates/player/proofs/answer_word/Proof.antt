@@ -15,7 +15,9 @@ execute-requires : tie.Need-execute-requires
 execute-requires c κs = search needs
 
 returns : tie.Need-returns
-returns c = c .execute .ensures (c .before .before .before .before .before .args .first) (rig (now (c .before .before .before .before .before .args .patch))) (c .before .before .load-groups .ensures)
+returns c =
+    let args = c .before .before .before .before .before .args in
+    c .execute .ensures (args .first) (rig (now (args .patch))) (c .before .before .load-groups .ensures)
 
 pub answer-word-spec : {M : Type 1} → statement M
 answer-word-spec =

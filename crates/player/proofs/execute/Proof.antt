@@ -18,7 +18,7 @@ use Rattle.player.proofs.execute.Tie as tie
 
 abbrev Inv-loop : tie.InvT-loop
 Inv-loop code groups registers₀ at₀ registers at =
-    (at ≤ length code) × (wrongCode (drop at code) ≡ false)
+    (at ≤ length code) × (wrongCode (drop at code) ≡ false) × (length registers ≡ registerCount)
     × ((first : ℕ) (G : Rig) → HoldsSets (lastGroup + 1) first groups G
     → (R : Registers) × HoldsSets registerCount first registers R × (run G (instructions (drop at code)) R ≡ run G (instructions code) empty))
 
@@ -26,7 +26,7 @@ abbrev μ-loop : tie.MeasureT-loop
 μ-loop code groups registers₀ at₀ registers at = length code - at
 
 loop-holds : tie.Need-loop-holds Inv-loop μ-loop
-loop-holds c = (omega arith, c .before .before .pre .0, λ first G h. (empty, holds-none registerCount first empty (λ i lamp. refl), refl))
+loop-holds c = (omega arith, c .before .before .pre .0, refl, λ first G h. (empty, holds-none registerCount first empty (λ i lamp. refl), refl))
 
 sub-loop : tie.Need-sub-loop Inv-loop μ-loop
 sub-loop c = search needs
@@ -36,12 +36,14 @@ numbers-at-requires c κs = search needs
 
 step-requires : tie.Need-step-requires Inv-loop μ-loop
 step-requires c κs =
-    let l : List ℕ = c .before .before .before .before .before .args .code .now in
-    let v = c .before .before .loop in
-    let q = c .numbers-at .ensures in
+    let args = c .before .before .before .before .before .before .args in
+    let pre = c .before .before .before .before .before .before .pre in
+    let l : List ℕ = args .code .now in
+    let v = c .before .before .before .loop in
+    let q = c .before .numbers-at .ensures in
     let right = or-left (wrongInstruction (getD l (v .at) 0) (getD l (v .at + 1) 0) (getD l (v .at + 2) 0) (getD l (v .at + 3) 0)) (wrongCode (drop (v .at + 4) l))
     (sym (code-more l (v .at) (v .at + 4) refl (omega arith)) ∙ v .inv .1) in
-    (rw (q .0, q .1, q .2, q .3) right, c .before .before .before .before .before .pre .1)
+    (rw (q .0, q .1, q .2, q .3) right, pre .1, v .inv .2)
 
 add-at : tie.Need-add-at Inv-loop μ-loop
 add-at c = search needs
@@ -51,17 +53,19 @@ loop-less c = search needs
 
 loop-again : tie.Need-loop-again Inv-loop μ-loop
 loop-again c =
-    let l : List ℕ = c .before .before .before .before .before .before .args .code .now in
-    let v = c .before .before .before .loop in
-    let q = c .before .numbers-at .ensures in
+    let args = c .before .before .before .before .before .before .before .args in
+    let l : List ℕ = args .code .now in
+    let v = c .before .before .before .before .loop in
+    let q = c .before .before .numbers-at .ensures in
     let fit : v .at + 4 ≤ length l = omega arith in (
       omega arith,
       or-right (wrongInstruction (getD l (v .at) 0) (getD l (v .at + 1) 0) (getD l (v .at + 2) 0) (getD l (v .at + 3) 0)) (wrongCode (drop (v .at + 4) l))
           (sym (code-more l (v .at) (v .at + 4) refl fit) ∙ v .inv .1),
+      c .step .ensures .0,
       λ first G h.
-          let w = v .inv .2 first G h in (
+          let w = v .inv .3 first G h in (
             step G (instruction (getD l (v .at) 0) (getD l (v .at + 1) 0) (getD l (v .at + 2) 0) (getD l (v .at + 3) 0)) (w .0),
-            rw (q .0, q .1, q .2, q .3) at (c .step .ensures first G (w .0) h (w .1)),
+            rw (q .0, q .1, q .2, q .3) at (c .step .ensures .1 first G (w .0) h (w .1)),
             sym (run-more l (v .at) (v .at + 4) refl fit G (w .0)) ∙ w .2,
           ),
     )
@@ -71,9 +75,10 @@ array-read-result c = search needs
 
 returns : tie.Need-returns Inv-loop μ-loop
 returns c first G h =
-    let l : List ℕ = c .before .before .before .before .args .code .now in
+    let args = c .before .before .before .before .args in
+    let l : List ℕ = args .code .now in
     let v = c .before .loop in
-    let w = v .inv .2 first G h in
+    let w = v .inv .3 first G h in
     w .1 .entry 0 (omega arith)
     ∙ ap (λ (R : Registers). word (R 0) first) (sym (run-end (drop (v .at) l) G (w .0) (simp length-drop (omega arith))) ∙ w .2)
 

@@ -35,22 +35,35 @@ wrong-code-requires : tie.Need-wrong-code-requires
 wrong-code-requires c κs = search needs
 
 returns-3 : tie.Need-returns-3
-returns-3 c = rw (no-21 (c .before .before .before .before), no-22 (c .before .before), sym (c .before .wrong-code .ensures) ∙ c .if3 .taken)
+returns-3 c =
+    let before = c .before .before .before .before in
+    rw (no-21 before, no-22 (c .before .before), sym (c .before .wrong-code .ensures) ∙ c .if3 .taken)
 
 wrong-pair-count-requires : tie.Need-wrong-pair-count-requires
 wrong-pair-count-requires c κs = search needs
 
 returns-4 : tie.Need-returns-4
-returns-4 c = rw (no-21 (c .before .before .before .before .before .before), no-22 (c .before .before .before .before), no-23 (c .before .before), sym (c .before .wrong-pair-count .ensures) ∙ c .if4 .taken)
+returns-4 c =
+    let before = c .before .before .before .before .before .before in
+    let before-call = c .before .before .before .before in
+    rw (no-21 before, no-22 before-call, no-23 (c .before .before), sym (c .before .wrong-pair-count .ensures) ∙ c .if4 .taken)
 
 wrong-patch-requires : tie.Need-wrong-patch-requires
 wrong-patch-requires c κs = search needs
 
 returns-5 : tie.Need-returns-5
-returns-5 c = rw (no-21 (c .before .before .before .before .before .before .before .before), no-22 (c .before .before .before .before .before .before), no-23 (c .before .before .before .before), no-24 (c .before .before), sym (c .before .wrong-patch .ensures) ∙ c .if5 .taken)
+returns-5 c =
+    let before = c .before .before .before .before .before .before .before .before in
+    let before-call = c .before .before .before .before .before .before in
+    let before-call2 = c .before .before .before .before in
+    rw (no-21 before, no-22 before-call, no-23 before-call2, no-24 (c .before .before), sym (c .before .wrong-patch .ensures) ∙ c .if5 .taken)
 
 returns-6 : tie.Need-returns-6
-returns-6 c = rw (no-21 (c .before .before .before .before .before .before .before .before), no-22 (c .before .before .before .before .before .before), no-23 (c .before .before .before .before), no-24 (c .before .before), sym (c .before .wrong-patch .ensures) ∙ c .if5 .left)
+returns-6 c =
+    let before = c .before .before .before .before .before .before .before .before in
+    let before-call = c .before .before .before .before .before .before in
+    let before-call2 = c .before .before .before .before in
+    rw (no-21 before, no-22 before-call, no-23 before-call2, no-24 (c .before .before), sym (c .before .wrong-patch .ensures) ∙ c .if5 .left)
 
 pub fault-spec : {M : Type 1} → statement M
 fault-spec =

@@ -66,13 +66,15 @@ loop-less c = search needs
 
 loop-again : tie.Need-loop-again Inv-loop μ-loop
 loop-again c =
-    let p : List ℕ = c .before .before .before .before .before .before .before .before .args .patch .now in
-    let first : ℕ = c .before .before .before .before .before .before .before .before .args .first in
+    let args = c .before .before .before .before .before .before .before .before .args in
+    let number-at = c .before .before .before .number-at in
+    let p : List ℕ = args .patch .now in
+    let first : ℕ = args .first in
     let v = c .before .before .before .before .before .loop in
-    let group : ℕ = c .before .before .before .number-at .result in
+    let group : ℕ = number-at .result in
     let rest : ℕ → Lamps = rig (drop (2 * v .j) p) in
     let more : put rest group (union (eqb (c .before .before .number-at2 .result)) (rest group)) ≡ rig (drop (2 * (v .j - 1)) p) =
-    rw (c .before .before .before .number-at .ensures, c .before .before .number-at2 .ensures) (rig-more p (2 * (v .j - 1)) (2 * v .j) (omega arith) (omega arith)) in
+    rw (number-at .ensures, c .before .before .number-at2 .ensures) (rig-more p (2 * (v .j - 1)) (2 * v .j) (omega arith) (omega arith)) in
     let within : group < lastGroup + 1 = omega arith in (
       omega arith,
       rw (← more) (holds-put (lastGroup + 1) first (v .groups) rest group (c .light .result) _ (v .inv .1) within
@@ -84,11 +86,12 @@ loop-less-2 c = search needs
 
 loop-again-2 : tie.Need-loop-again-2 Inv-loop μ-loop
 loop-again-2 c =
-    let p : List ℕ = c .before .before .before .before .before .before .before .args .patch .now in
+    let args = c .before .before .before .before .before .before .before .args in
+    let p : List ℕ = args .patch .now in
     let v = c .before .before .before .before .loop in
     let e = c .before .before .number-at .ensures in (
       omega arith,
-      holds-same (lastGroup + 1) (c .before .before .before .before .before .before .before .args .first) (v .groups) (rig (drop (2 * v .j) p)) (rig (drop (2 * (v .j - 1)) p)) (v .inv .1)
+      holds-same (lastGroup + 1) (args .first) (v .groups) (rig (drop (2 * v .j) p)) (rig (drop (2 * (v .j - 1)) p)) (v .inv .1)
           (λ i h. rig-other p (2 * (v .j - 1)) (2 * v .j) (omega arith) (omega arith) i (λ x. omega arith)),
     )
 

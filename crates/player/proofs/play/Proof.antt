@@ -60,17 +60,21 @@ answer-requires c κs =
 
 write-bytes-requires : tie.Need-write-bytes-requires
 write-bytes-requires c κs =
+    let fault = c .before .before .before .fault in
     let a = c .before .before .before .before .before .before .before .before .args in
-    faultless (now (a .code)) (now (a .patch)) (now (a .lamps)) (sym (c .before .before .before .fault .ensures) ∙ c .before .before .if1 .left) .0
+    faultless (now (a .code)) (now (a .patch)) (now (a .lamps)) (sym (fault .ensures) ∙ c .before .before .if1 .left) .0
 
 same-length-2 : tie.Need-same-length-2
 same-length-2 c = search needs
 
 returns-2 : tie.Need-returns-2
 returns-2 c =
+    let fault = c .before .before .before .before .before .before .fault in
+    let if1 = c .before .before .before .before .before .if1 in
+    let answer-call = c .before .before .before .before .answer in
     let a = c .before .before .before .before .before .before .before .before .before .before .before .args in
-    done (now (a .code)) (now (a .patch)) (now (a .lamps)) _ (sym (c .before .before .before .before .before .before .fault .ensures) ∙ c .before .before .before .before .before .if1 .left)
-    (c .before .before .write-bytes .ensures (answer (rig (now (a .patch))) (instructions (now (a .code)))) (c .before .before .before .before .answer .ensures))
+    done (now (a .code)) (now (a .patch)) (now (a .lamps)) _ (sym (fault .ensures) ∙ if1 .left)
+    (c .before .before .write-bytes .ensures (answer (rig (now (a .patch))) (instructions (now (a .code)))) (answer-call .ensures))
 
 pub play-spec : {M : Type 1} → statement M
 play-spec =

@@ -2,6 +2,7 @@
 use borrow.Author.Needs.{needs}
 use Prim.Native.Nat.{_≤_, _<_}
 use native.Mathlib.Omega.{arith}
+use lib.ListN.{length-set}
 use Rattle.player.specs.Limits.{registerCount, lastGroup}
 use Rattle.player.specs.Words.{combined}
 use Rattle.player.proofs.Tests.{right-target, right-group, right-s, right-t}
@@ -13,32 +14,43 @@ target : (c : tie.Start) → c .args .i .target < registerCount
 target c = right-target (c .args .i .kind) (c .args .i .target) (c .args .i .s) (c .args .i .t) (c .pre .0)
 
 group : (c : tie.Then1) → c .before .before .before .args .i .s ≤ lastGroup
-group c = right-group (c .before .before .before .args .i .kind) (c .before .before .before .args .i .target) (c .before .before .before .args .i .s) (c .before .before .before .args .i .t) (c .before .before .before .pre .0) (c .if1 .taken)
+group c =
+    let args = c .before .before .before .args in
+    let pre = c .before .before .before .pre in
+    right-group (args .i .kind) (args .i .target) (args .i .s) (args .i .t) (pre .0) (c .if1 .taken)
 
 from-s : (c : tie.Else1) → c .before .before .before .args .i .s < registerCount
-from-s c = right-s (c .before .before .before .args .i .kind) (c .before .before .before .args .i .target) (c .before .before .before .args .i .s) (c .before .before .before .args .i .t) (c .before .before .before .pre .0) (c .if1 .left)
+from-s c =
+    let args = c .before .before .before .args in
+    let pre = c .before .before .before .pre in
+    right-s (args .i .kind) (args .i .target) (args .i .s) (args .i .t) (pre .0) (c .if1 .left)
 
 from-t : (c : tie.Else1) → c .before .before .before .args .i .t < registerCount
-from-t c = right-t (c .before .before .before .args .i .kind) (c .before .before .before .args .i .target) (c .before .before .before .args .i .s) (c .before .before .before .args .i .t) (c .before .before .before .pre .0) (c .if1 .left)
+from-t c =
+    let args = c .before .before .before .args in
+    let pre = c .before .before .before .pre in
+    right-t (args .i .kind) (args .i .target) (args .i .s) (args .i .t) (pre .0) (c .if1 .left)
 
-mul-next : tie.Need-mul-next
-mul-next c =
+mul-registers : tie.Need-mul-registers
+mul-registers c =
     let h = group c in
     search needs
 
-shared-slice-read-next : tie.Need-shared-slice-read-next
-shared-slice-read-next c =
+shared-slice-read-registers : tie.Need-shared-slice-read-registers
+shared-slice-read-registers c =
     let h = group (c .before) in
     search needs
 
-mul-next-2 : tie.Need-mul-next-2
-mul-next-2 c =
-    let h = target (c .before .before .before .before) in
+mul-registers-2 : tie.Need-mul-registers-2
+mul-registers-2 c =
+    let before = c .before .before .before .before in
+    let h = target before in
     search needs
 
-array-write-next : tie.Need-array-write-next
-array-write-next c =
-    let h = target (c .before .before .before .before) in
+element-write-registers : tie.Need-element-write-registers
+element-write-registers c =
+    let before = c .before .before .before .before in
+    let h = target before in
     search needs
 
 mul-combine : tie.Need-mul-combine
@@ -46,64 +58,77 @@ mul-combine c =
     let h = from-s c in
     search needs
 
-array-read-combine : tie.Need-array-read-combine
-array-read-combine c =
+element-copy-out-combine : tie.Need-element-copy-out-combine
+element-copy-out-combine c =
     let h = from-s c in
     search needs
 
 mul-combine-2 : tie.Need-mul-combine-2
 mul-combine-2 c =
-    let h = from-t c in
+    let h = from-t (c .before) in
     search needs
 
-array-read-combine-2 : tie.Need-array-read-combine-2
-array-read-combine-2 c =
-    let h = from-t c in
+element-copy-out-combine-2 : tie.Need-element-copy-out-combine-2
+element-copy-out-combine-2 c =
+    let h = from-t (c .before) in
     search needs
 
 combine-requires : tie.Need-combine-requires
 combine-requires c κs = search needs
 
-mul-next-3 : tie.Need-mul-next-3
-mul-next-3 c =
-    let h = target (c .before .before .before .before) in
+mul-registers-3 : tie.Need-mul-registers-3
+mul-registers-3 c =
+    let before = c .before .before .before .before .before .before in
+    let h = target before in
     search needs
 
-array-write-next-2 : tie.Need-array-write-next-2
-array-write-next-2 c =
-    let h = target (c .before .before .before .before) in
+element-write-registers-2 : tie.Need-element-write-registers-2
+element-write-registers-2 c =
+    let before = c .before .before .before .before .before .before in
+    let h = target before in
     search needs
 
 returns : tie.Need-returns
-returns c first G R groups registers =
-    let a = c .before .before .before .before .args in
+returns c =
+    let pre = c .before .before .before .before .pre in
+    let before = c .before .before .before .before in
+    let a = before .args in
     let i = a .i in
-    let h = group (c .before) in
-    rw (← step-load G R (i .kind) (i .target) (i .s) (i .t) (c .before .if1 .taken))
-    (holds-put registerCount first (a .t1) R (i .target) _ (G (i .s)) registers (target (c .before .before .before .before)) (groups .entry (i .s) (omega arith)))
+    let h = group (c .before) in (
+      simp length-set (pre .2),
+      λ first G R groups registers.
+          rw (← step-load G R (i .kind) (i .target) (i .s) (i .t) (c .before .if1 .taken))
+          (holds-put registerCount first (a .registers .now) R (i .target) _ (G (i .s)) registers (target before) (groups .entry (i .s) (omega arith))),
+    )
 
 returns-2 : tie.Need-returns-2
-returns-2 c first G R groups registers =
-    let a = c .before .before .before .before .args in
+returns-2 c =
+    let pre = c .before .before .before .before .before .before .pre in
+    let before = c .before .before .before .before .before .before in
+    let a = before .args in
     let i = a .i in
-    rw (← step-combined G R (i .kind) (i .target) (i .s) (i .t) (c .before .if1 .left))
-    (holds-put registerCount first (a .t1) R (i .target) (c .combine .result) (combined (i .kind) (R (i .s)) (R (i .t))) registers (target (c .before .before .before .before))
-    (c .combine .ensures (R (i .s)) (R (i .t)) first (registers .entry (i .s) (from-s (c .before))) (registers .entry (i .t) (from-t (c .before)))))
+    let e = c .before .before .before in (
+      simp length-set (pre .2),
+      λ first G R groups registers.
+          rw (← step-combined G R (i .kind) (i .target) (i .s) (i .t) (e .if1 .left))
+          (holds-put registerCount first (a .registers .now) R (i .target) (c .combine .result) (combined (i .kind) (R (i .s)) (R (i .t))) registers (target before)
+          (c .combine .ensures (R (i .s)) (R (i .t)) first (registers .entry (i .s) (from-s e)) (registers .entry (i .t) (from-t e)))),
+    )
 
 pub step-spec : {M : Type 1} → statement M
 step-spec =
     tie.close
     (tie.spec
-    mul-next
-    shared-slice-read-next
-    mul-next-2
-    array-write-next
+    mul-registers
+    shared-slice-read-registers
+    mul-registers-2
+    element-write-registers
     mul-combine
-    array-read-combine
+    element-copy-out-combine
     mul-combine-2
-    array-read-combine-2
+    element-copy-out-combine-2
     combine-requires
-    mul-next-3
-    array-write-next-2
+    mul-registers-3
+    element-write-registers-2
     returns
     returns-2)

@@ -31,7 +31,8 @@ wrong-instruction-requires c κs = search needs
 
 returns : tie.Need-returns Inv-loop μ-loop
 returns c =
-    let l : List ℕ = c .before .before .before .before .before .before .args .code .now in
+    let args = c .before .before .before .before .before .before .args in
+    let l : List ℕ = args .code .now in
     let v = c .before .before .before .before .loop in
     let hit : wrongInstruction (getD l (v .at) 0) (getD l (v .at + 1) 0) (getD l (v .at + 2) 0) (getD l (v .at + 3) 0) ≡ true = cc in
     sym (v .inv .1 ∙ code-hit l (v .at) (v .at + 4) refl (omega arith) hit)
@@ -44,15 +45,17 @@ loop-less c = search needs
 
 loop-again : tie.Need-loop-again Inv-loop μ-loop
 loop-again c =
-    let l : List ℕ = c .before .before .before .before .before .before .args .code .now in
+    let args = c .before .before .before .before .before .before .args in
+    let l : List ℕ = args .code .now in
     let v = c .before .before .before .before .loop in
     let miss : wrongInstruction (getD l (v .at) 0) (getD l (v .at + 1) 0) (getD l (v .at + 2) 0) (getD l (v .at + 3) 0) ≡ false = cc in
     (omega arith, v .inv .1 ∙ code-miss l (v .at) (v .at + 4) refl (omega arith) miss)
 
 returns-2 : tie.Need-returns-2 Inv-loop μ-loop
 returns-2 c =
+    let args = c .before .before .before .args in
     let v = c .before .loop in
-    sym (v .inv .1 ∙ code-end (drop (v .at) (c .before .before .before .args .code .now)) (simp length-drop (omega arith)))
+    sym (v .inv .1 ∙ code-end (drop (v .at) (args .code .now)) (simp length-drop (omega arith)))
 
 pub wrong-code-spec : {M : Type 1} → statement M
 wrong-code-spec =

@@ -37,7 +37,8 @@ wrong-pair-requires c κs = search needs
 
 returns : tie.Need-returns Inv-loop μ-loop
 returns c =
-    let l : List ℕ = c .before .before .before .before .before .before .before .args .patch .now in
+    let args = c .before .before .before .before .before .before .before .args in
+    let l : List ℕ = args .patch .now in
     let v = c .before .before .before .before .before .loop in
     let hit : wrongPair (getD l (v .at) 0) (getD l (v .at + 1) 0) ≡ true = cc in
     sym (v .inv .1 ∙ patch-hit l (v .at) (v .at + 2) refl (omega arith) hit)
@@ -50,15 +51,17 @@ loop-less c = search needs
 
 loop-again : tie.Need-loop-again Inv-loop μ-loop
 loop-again c =
-    let l : List ℕ = c .before .before .before .before .before .before .before .args .patch .now in
+    let args = c .before .before .before .before .before .before .before .args in
+    let l : List ℕ = args .patch .now in
     let v = c .before .before .before .before .before .loop in
     let miss : wrongPair (getD l (v .at) 0) (getD l (v .at + 1) 0) ≡ false = cc in
     (omega arith, v .inv .1 ∙ patch-miss l (v .at) (v .at + 2) refl (omega arith) miss)
 
 returns-2 : tie.Need-returns-2 Inv-loop μ-loop
 returns-2 c =
+    let args = c .before .before .before .args in
     let v = c .before .loop in
-    sym (v .inv .1 ∙ patch-end (drop (v .at) (c .before .before .before .args .patch .now)) (simp length-drop (omega arith)))
+    sym (v .inv .1 ∙ patch-end (drop (v .at) (args .patch .now)) (simp length-drop (omega arith)))
 
 pub wrong-patch-spec : {M : Type 1} → statement M
 wrong-patch-spec =

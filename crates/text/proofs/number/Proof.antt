@@ -23,10 +23,14 @@ shared-slice-read-if3 : tie.Need-shared-slice-read-if3 Inv-loop μ-loop
 shared-slice-read-if3 c = search needs
 
 returns-2 : tie.Need-returns-2 Inv-loop μ-loop
-returns-2 c = sym (number-leading (c .before .before .before .before .before .args .bytes .now) (omega arith) (c .if3 .taken))
+returns-2 c =
+    let args = c .before .before .before .before .before .args in
+    sym (number-leading (args .bytes .now) (omega arith) (c .if3 .taken))
 
 loop-holds : tie.Need-loop-holds Inv-loop μ-loop
-loop-holds c = (search needs, number-start _ (c .before .if1 .left) (⊎-elim (λ w. lead-other (c .before .before .before .args .bytes .now) (w .2 .left)) (λ w. lead-short (c .before .before .before .args .bytes .now) (w .left)) (c .if2 .came)))
+loop-holds c =
+    let args = c .before .before .before .args in
+    (search needs, number-start _ (c .before .if1 .left) (⊎-elim (λ w. lead-other (args .bytes .now) (w .2 .left)) (λ w. lead-short (args .bytes .now) (w .left)) (c .if2 .came)))
 
 shared-slice-read-digit-after : tie.Need-shared-slice-read-digit-after Inv-loop μ-loop
 shared-slice-read-digit-after c = search needs
@@ -41,7 +45,9 @@ loop-less : tie.Need-loop-less Inv-loop μ-loop
 loop-less c = search needs
 
 loop-again : tie.Need-loop-again Inv-loop μ-loop
-loop-again c = (search needs, c .before .before .before .loop .inv .1 ∙ after-next _ _ _ (c .before .before .loop-test .taken) ∙ rw (c .digit-after .ensures))
+loop-again c =
+    let loop = c .before .before .before .loop in
+    (search needs, loop .inv .1 ∙ after-next _ _ _ (c .before .before .loop-test .taken) ∙ rw (c .digit-after .ensures))
 
 returns-3 : tie.Need-returns-3 Inv-loop μ-loop
 returns-3 c = sym (c .before .loop .inv .1 ∙ after-end _ _ _ (c .loop-test .left))

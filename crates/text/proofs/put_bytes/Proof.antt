@@ -35,7 +35,9 @@ loop-less : tie.Need-loop-less Inv-loop μ-loop
 loop-less c = search needs
 
 loop-again : tie.Need-loop-again Inv-loop μ-loop
-loop-again c = (omega arith, omega arith, wrote-next (c .before .before .before .args .source .now) (c .before .before .loop .i) (c .before .loop-test .taken) (c .before .before .loop .inv .2))
+loop-again c =
+    let args = c .before .before .before .args in
+    (omega arith, omega arith, wrote-next (args .source .now) (c .before .before .loop .i) (c .before .loop-test .taken) (c .before .before .loop .inv .2))
 
 same-length : tie.Need-same-length Inv-loop μ-loop
 same-length c = c .before .loop .inv .2 .same

@@ -28,7 +28,10 @@ shared-slice-read-put-field : tie.Need-shared-slice-read-put-field Inv-loop μ-l
 shared-slice-read-put-field c = search needs
 
 put-field-requires : tie.Need-put-field-requires Inv-loop μ-loop
-put-field-requires c κs = let w = c .before .before .before .loop .inv .1 in omega (arith, w .ends, w .same, fields-room (c .before .before .before .before .before .before .args .numbers .now) (c .before .before .before .loop .i) (c .before .before .loop-test .taken))
+put-field-requires c κs =
+    let args = c .before .before .before .before .before .before .args in
+    let loop = c .before .before .before .loop in
+    let w = loop .inv .1 in omega (arith, w .ends, w .same, fields-room (args .numbers .now) (loop .i) (c .before .before .loop-test .taken))
 
 add-i : tie.Need-add-i Inv-loop μ-loop
 add-i c = search needs
@@ -37,7 +40,10 @@ loop-less : tie.Need-loop-less Inv-loop μ-loop
 loop-less c = search needs
 
 loop-again : tie.Need-loop-again Inv-loop μ-loop
-loop-again c = (omega arith, wrote-as (wrote-then (c .before .before .before .before .before .before .loop .inv .1) (c .before .before .put-field .ensures)) (fields-next _ _ (c .before .before .before .before .before .loop-test .taken)))
+loop-again c =
+    let loop = c .before .before .before .before .before .before .loop in
+    let loop-test = c .before .before .before .before .before .loop-test in
+    (omega arith, wrote-as (wrote-then (loop .inv .1) (c .before .before .put-field .ensures)) (fields-next _ _ (loop-test .taken)))
 
 same-length : tie.Need-same-length Inv-loop μ-loop
 same-length c = c .before .loop .inv .1 .same

@@ -7,19 +7,31 @@ use Rattle.text.proofs.put_line.Statement.{statement}
 use Rattle.text.proofs.put_line.Tie as tie
 
 put-bytes-requires : tie.Need-put-bytes-requires
-put-bytes-requires c κs = omega (arith, line-length (c .before .before .before .before .args .word .now) (c .before .before .before .before .args .numbers .now))
+put-bytes-requires c κs =
+    let args = c .before .before .before .before .args in
+    omega (arith, line-length (args .word .now) (args .numbers .now))
 
 put-fields-requires : tie.Need-put-fields-requires
-put-fields-requires c κs = omega (arith, line-length (c .before .before .before .before .before .before .before .before .args .word .now) (c .before .before .before .before .before .before .before .before .args .numbers .now), c .before .before .before .put-bytes .ensures .ends, c .before .before .before .put-bytes .ensures .same)
+put-fields-requires c κs =
+    let args = c .before .before .before .before .before .before .before .before .args in
+    let put-bytes = c .before .before .before .put-bytes in
+    omega (arith, line-length (args .word .now) (args .numbers .now), put-bytes .ensures .ends, put-bytes .ensures .same)
 
 put-byte-requires : tie.Need-put-byte-requires
-put-byte-requires c κs = omega (arith, line-length (c .before .before .before .before .before .before .before .before .before .before .before .before .args .word .now) (c .before .before .before .before .before .before .before .before .before .before .before .before .args .numbers .now), c .before .before .before .before .before .before .before .put-bytes .ensures .ends, c .before .before .before .before .before .before .before .put-bytes .ensures .same, c .before .before .before .put-fields .ensures .ends, c .before .before .before .put-fields .ensures .same)
+put-byte-requires c κs =
+    let args = c .before .before .before .before .before .before .before .before .before .before .before .before .args in
+    let put-bytes = c .before .before .before .before .before .before .before .put-bytes in
+    let put-fields = c .before .before .before .put-fields in
+    omega (arith, line-length (args .word .now) (args .numbers .now), put-bytes .ensures .ends, put-bytes .ensures .same, put-fields .ensures .ends, put-fields .ensures .same)
 
 same-length : tie.Need-same-length
 same-length c = search needs
 
 returns : tie.Need-returns
-returns c = wrote-as (wrote-then (wrote-then (c .before .before .before .before .before .before .before .before .before .before .put-bytes .ensures) (c .before .before .before .before .before .before .put-fields .ensures)) (c .before .before .put-byte .ensures)) (line-written _ _)
+returns c =
+    let put-bytes = c .before .before .before .before .before .before .before .before .before .before .put-bytes in
+    let put-fields = c .before .before .before .before .before .before .put-fields in
+    wrote-as (wrote-then (wrote-then (put-bytes .ensures) (put-fields .ensures)) (c .before .before .put-byte .ensures)) (line-written _ _)
 
 pub put-line-spec : {M : Type 1} → statement M
 put-line-spec =

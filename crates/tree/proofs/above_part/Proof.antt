@@ -31,15 +31,19 @@ add-t17 : tie.Need-add-t17
 add-t17 c = search needs
 
 returns : tie.Need-returns
-returns c = let g = c .before .before .before .before .before .before .before .args in
+returns c =
+    let if1 = c .before .before .before .before .if1 in
+    let g = c .before .before .before .before .before .before .before .args in
     let p = c .before .before .before .before .before .scan-onward in
     λ a k P. is-right (g .list .now) (g .from) (g .to) (p .result) (c .scan-backward .result) a k P
-    (p .ensures) (c .before .before .before .before .if1 .taken) (c .before .if2 .taken) (c .scan-backward .ensures) (c .before .before .operator-kind .result) (c .before .before .operator-kind .ensures .0)
+    (p .ensures) (if1 .taken) (c .before .if2 .taken) (c .scan-backward .ensures) (c .before .before .operator-kind .result) (c .before .before .operator-kind .ensures .0)
 
 returns-2 : tie.Need-returns-2
-returns-2 c = let g = c .before .before .before .before .before .before .args in
+returns-2 c =
+    let if1 = c .before .before .before .if1 in
+    let g = c .before .before .before .before .before .before .args in
     let p = c .before .before .before .before .scan-onward in
-    λ a k P. is-left (g .list .now) (g .from) (g .to) (p .result) a k P (p .ensures) (c .before .before .before .if1 .taken) (c .if2 .left) (c .before .operator-kind .result) (c .before .operator-kind .ensures .0)
+    λ a k P. is-left (g .list .now) (g .from) (g .to) (p .result) a k P (p .ensures) (if1 .taken) (c .if2 .left) (c .before .operator-kind .result) (c .before .operator-kind .ensures .0)
 
 returns-3 : tie.Need-returns-3
 returns-3 c = let g = c .before .before .before .args in

@@ -13,13 +13,20 @@ returns : tie.Need-returns
 returns c = kind-group (c .before .before .args .x) (sym (c .before .is-group .ensures) ∙ c .if1 .taken)
 
 returns-2 : tie.Need-returns-2
-returns-2 c = kind-operator (c .before .before .before .args .x) union (c .if2 .taken)
+returns-2 c =
+    let args = c .before .before .before .args in
+    kind-operator (args .x) union (c .if2 .taken)
 
 returns-3 : tie.Need-returns-3
-returns-3 c = kind-operator (c .before .before .before .before .args .x) difference (c .if3 .taken)
+returns-3 c =
+    let args = c .before .before .before .before .args in
+    kind-operator (args .x) difference (c .if3 .taken)
 
 returns-4 : tie.Need-returns-4
-returns-4 c = kind-neither (c .before .before .before .before .args .x) (sym (c .before .before .before .is-group .ensures) ∙ c .before .before .if1 .left) (c .before .if2 .left) (c .if3 .left)
+returns-4 c =
+    let args = c .before .before .before .before .args in
+    let is-group = c .before .before .before .is-group in
+    kind-neither (args .x) (sym (is-group .ensures) ∙ c .before .before .if1 .left) (c .before .if2 .left) (c .if3 .left)
 
 pub entry-kind-spec : {M : Type 1} → statement M
 entry-kind-spec = tie.close (tie.spec is-group-requires returns returns-2 returns-3 returns-4)

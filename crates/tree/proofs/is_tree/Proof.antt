@@ -41,16 +41,26 @@ loop-less : tie.Need-loop-less Inv-loop μ-loop
 loop-less c = search needs
 
 loop-again : tie.Need-loop-again Inv-loop μ-loop
-loop-again c = let l = c .before .before .before .before .loop in
-    (omega arith, omega arith, sym (formed-group (c .before .before .before .before .before .before .before .args .list .now) (l .i) (l .waiting) (c .before .before .before .loop-test .taken) (sym (c .if2 .taken) ∙ c .before .entry-kind .ensures)) ∙ l .inv .2)
+loop-again c =
+    let args = c .before .before .before .before .before .before .before .args in
+    let loop-test = c .before .before .before .loop-test in
+    let l = c .before .before .before .before .loop in
+    (omega arith, omega arith, sym (formed-group (args .list .now) (l .i) (l .waiting) (loop-test .taken) (sym (c .if2 .taken) ∙ c .before .entry-kind .ensures)) ∙ l .inv .2)
 
 returns-2 : tie.Need-returns-2 Inv-loop μ-loop
-returns-2 c = let l = c .before .before .before .before .before .loop in
-    sym (formed-neither (c .before .before .before .before .before .before .before .before .args .list .now) (l .i) (l .waiting) (c .before .before .before .before .loop-test .taken) (c .before .before .entry-kind .result) (c .before .before .entry-kind .ensures) (c .before .if2 .left) (c .if3 .taken)) ∙ l .inv .2
+returns-2 c =
+    let args = c .before .before .before .before .before .before .before .before .args in
+    let loop-test = c .before .before .before .before .loop-test in
+    let l = c .before .before .before .before .before .loop in
+    sym (formed-neither (args .list .now) (l .i) (l .waiting) (loop-test .taken) (c .before .before .entry-kind .result) (c .before .before .entry-kind .ensures) (c .before .if2 .left) (c .if3 .taken)) ∙ l .inv .2
 
 returns-3 : tie.Need-returns-3 Inv-loop μ-loop
-returns-3 c = let l = c .before .before .before .before .before .before .loop in
-    sym (formed-short (c .before .before .before .before .before .before .before .before .before .args .list .now) (l .i) (l .waiting) (c .before .before .before .before .before .loop-test .taken) (sym (c .before .if3 .left) ∙ c .before .before .before .entry-kind .ensures) (c .if4 .taken)) ∙ l .inv .2
+returns-3 c =
+    let args = c .before .before .before .before .before .before .before .before .before .args in
+    let loop-test = c .before .before .before .before .before .loop-test in
+    let entry-kind = c .before .before .before .entry-kind in
+    let l = c .before .before .before .before .before .before .loop in
+    sym (formed-short (args .list .now) (l .i) (l .waiting) (loop-test .taken) (sym (c .before .if3 .left) ∙ entry-kind .ensures) (c .if4 .taken)) ∙ l .inv .2
 
 sub-waiting : tie.Need-sub-waiting Inv-loop μ-loop
 sub-waiting c = search needs
@@ -62,12 +72,18 @@ loop-less-2 : tie.Need-loop-less-2 Inv-loop μ-loop
 loop-less-2 c = search needs
 
 loop-again-2 : tie.Need-loop-again-2 Inv-loop μ-loop
-loop-again-2 c = let l = c .before .before .before .before .before .before .loop in
-    (omega arith, omega arith, sym (formed-operator (c .before .before .before .before .before .before .before .before .before .args .list .now) (l .i) (l .waiting) (c .before .before .before .before .before .loop-test .taken) (sym (c .before .if3 .left) ∙ c .before .before .before .entry-kind .ensures) (c .if4 .left)) ∙ l .inv .2)
+loop-again-2 c =
+    let args = c .before .before .before .before .before .before .before .before .before .args in
+    let loop-test = c .before .before .before .before .before .loop-test in
+    let entry-kind = c .before .before .before .entry-kind in
+    let l = c .before .before .before .before .before .before .loop in
+    (omega arith, omega arith, sym (formed-operator (args .list .now) (l .i) (l .waiting) (loop-test .taken) (sym (c .before .if3 .left) ∙ entry-kind .ensures) (c .if4 .left)) ∙ l .inv .2)
 
 returns-4 : tie.Need-returns-4 Inv-loop μ-loop
-returns-4 c = let l = c .before .loop in
-    sym (formed-end (c .before .before .before .before .args .list .now) (l .i) (l .waiting) (c .loop-test .left)) ∙ l .inv .2
+returns-4 c =
+    let args = c .before .before .before .before .args in
+    let l = c .before .loop in
+    sym (formed-end (args .list .now) (l .i) (l .waiting) (c .loop-test .left)) ∙ l .inv .2
 
 pub is-tree-spec : {M : Type 1} → statement M
 is-tree-spec =

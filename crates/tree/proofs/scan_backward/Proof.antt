@@ -42,8 +42,9 @@ loop-again c =
 
 returns : tie.Need-returns Inv-loop μ-loop
 returns c =
+    let loop-test = c .before .before .before .loop-test in
     let l = c .before .before .before .before in
-    let w = c .before .before .before .loop-test .taken in
+    let w = loop-test .taken in
     sym (backward-stop (l .before .args .list .now) (l .loop .i) (l .loop .operands) w (l .loop .inv .0) (c .before .if1 .left) (c .if2 .taken)) ∙ l .loop .inv .3
 
 sub-operands : tie.Need-sub-operands Inv-loop μ-loop
@@ -54,8 +55,9 @@ loop-less-2 c = search needs
 
 loop-again-2 : tie.Need-loop-again-2 Inv-loop μ-loop
 loop-again-2 c =
+    let loop-test = c .before .before .before .loop-test in
     let l = c .before .before .before .before in
-    let w = c .before .before .before .loop-test .taken in
+    let w = loop-test .taken in
     (omega arith, omega arith, omega arith, sym (backward-leaf (l .before .args .list .now) (l .loop .i) (l .loop .operands) w (l .loop .inv .0) (c .before .if1 .left) (c .if2 .left)) ∙ l .loop .inv .3)
 
 returns-2 : tie.Need-returns-2 Inv-loop μ-loop

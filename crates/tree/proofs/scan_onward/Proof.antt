@@ -26,8 +26,9 @@ shared-slice-read-if1 c = search needs
 
 returns : tie.Need-returns Inv-loop μ-loop
 returns c =
+    let loop-test = c .before .before .before .loop-test in
     let l = c .before .before .before .before in
-    omega (arith, onward-stop (l .before .args .list .now) (l .loop .i) (l .loop .operands) (c .before .before .before .loop-test .taken) (c .before .if1 .taken) (omega arith))
+    omega (arith, onward-stop (l .before .args .list .now) (l .loop .i) (l .loop .operands) (loop-test .taken) (c .before .if1 .taken) (omega arith))
 
 sub-operands : tie.Need-sub-operands Inv-loop μ-loop
 sub-operands c = search needs
@@ -40,8 +41,9 @@ loop-less c = search needs
 
 loop-again : tie.Need-loop-again Inv-loop μ-loop
 loop-again c =
+    let loop-test = c .before .before .before .loop-test in
     let l = c .before .before .before .before in
-    omega (arith, onward-operator (l .before .args .list .now) (l .loop .i) (l .loop .operands) (c .before .before .before .loop-test .taken) (c .before .if1 .taken) (omega arith))
+    omega (arith, onward-operator (l .before .args .list .now) (l .loop .i) (l .loop .operands) (loop-test .taken) (c .before .if1 .taken) (omega arith))
 
 add-operands : tie.Need-add-operands Inv-loop μ-loop
 add-operands c = search needs
