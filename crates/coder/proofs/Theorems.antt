@@ -3,7 +3,7 @@
 use mathlib.Core.Path.{_≡_, refl, sym, ap, _∙_}
 use mathlib.Core.Bool.{Bool, true, false, not, cond, false≢true}
 use mathlib.Core.List.{List, [], _∷_, _++_, append-assoc}
-use Prim.Native.Nat.{ℕ, _+_, _-_, _^_, _≤_, _<_}
+use Prim.Native.Nat.{ℕ, _+_, _-_, _≤_, _<_}
 use native.Mathlib.Omega.{arith}
 use borrow.Author.Tests.{leb-true, leb-false, le-ltb}
 use lib.Dec.{T, leb, ltb}
@@ -25,9 +25,9 @@ use Rattle.player.specs.Laws.{instructions-numbers, numbers-fault}
 use Rattle.coder.specs.Need.{need}
 use Rattle.coder.specs.Code.{code, codeNumbers, codePlace, ownCode, runFirst, runCount}
 use Rattle.coder.specs.Effects.{Every, Names, Loads, writtenAfter, readFirst, noneWritten, ahead, stretch, behind, ClosedRun, LoadsApart}
-use Rattle.coder.proofs.NeedLaws.{need-power, need-most, waiting-need}
+use Rattle.coder.proofs.NeedLaws.{need-most, waiting-need}
 use Rattle.coder.proofs.CodeLaws.{length-code, leaves, every-implies, wider, names-waiting, loads}
-use Rattle.coder.proofs.RunLaws.{closed-code, low-written, code-stands, behind-quiet, loads-around}
+use Rattle.coder.proofs.RunLaws.{closed-code, low-written, code-stands, behind-unread, loads-around}
 
 -- ---- 1. Running the code of a tree, by the player's own definition, from any registers leaves in the target exactly what
 -- the tree selects in the rig, and every register below the target as it was.
@@ -38,12 +38,9 @@ pub code-keeps : (rig : Rig) (t : Tree) (r : ℕ) (R : Registers) (q : ℕ) → 
 code-keeps rig t r R q h = leaves rig t r .below R q h
 
 -- ---- 2. The registers that the code of a tree with target r names are from r on and below r + need; 2 to the power need is
--- at most the tree's nodes plus 1; so for at most 8,191 nodes no register above 12 is named.
+-- at most the tree's nodes plus 1 (NeedLaws `need-power`); so for at most 8,191 nodes no register above 12 is named.
 pub code-names : (t : Tree) (r : ℕ) → Every (Names r (r + need t)) (code t r)
 code-names t r = rw (waiting-need r t) at (names-waiting t r)
-
-pub power-of-need : (t : Tree) → 2 ^ need t ≤ size t + 1
-power-of-need = need-power
 
 pub thirteen-suffice : (t : Tree) → size t ≤ mostNodes → Every (Names 0 registerCount) (code t 0)
 thirteen-suffice t h =
@@ -95,7 +92,7 @@ module _ (h : Tree) (c : List Frame) where
   others q w n = go (leb (codePlace h c 0 .target) q) refl
     where
       go : (x : Bool) → leb (codePlace h c 0 .target) q ≡ x → readFirst q (codePlace h c 0 .behind) ≡ false
-      go true e = behind-quiet h c 0 q (omega (arith, leb-true (codePlace h c 0 .target) q e))
+      go true e = behind-unread h c 0 q (omega (arith, leb-true (codePlace h c 0 .target) q e))
       go false e = absurd (false≢true (sym (low-written (codePlace h c 0 .target) _ q noneWritten (ownCode h c) (leb-false (codePlace h c 0 .target) q e) (code-names h (codePlace h c 0 .target))) ∙ w))
 
   pub closed-run : ClosedRun (code (plug h c) 0) (runFirst h c) (runCount h c) (codePlace h c 0 .target)

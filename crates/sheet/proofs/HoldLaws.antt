@@ -1,24 +1,23 @@
 -- The code's numbers and arrays follow the state: a line's fault in the code's numbers, and what each kind of line leaves.
-use mathlib.Core.Path.{_≡_, refl, sym, ap, _∙_}
-use mathlib.Core.Bool.{Bool, true, false, not, cond, _&&_}
+use mathlib.Core.Path.{_≡_, refl, sym, _∙_}
+use mathlib.Core.Bool.{true, false, not, cond, _&&_}
 use mathlib.Core.List.{List, [], _∷_, _++_}
-use Prim.Native.Nat.{ℕ, suc, _+_, _-_, _≤_, _<_}
+use Prim.Native.Nat.{ℕ, _+_, _-_, _≤_, _<_}
 use native.Mathlib.Omega.{arith}
-use borrow.Author.Tests.{eq-eqb, ne-eqb, le-ltb}
-use lib.Dec.{eqb, leb, ltb}
+use lib.Dec.{leb, ltb}
 use lib.ListN.{length, replicate, set, take, drop, length-append, length-replicate}
 use lib.Seq.{take-at}
 use Rattle.tree.specs.Tree.{isGroup, isIn, withNew}
 use Rattle.tree.specs.Pass.{pass}
-use Rattle.tree.specs.Writing.{over, Wrote}
+use Rattle.tree.specs.Writing.{Wrote}
+use Rattle.tree.proofs.GroupLaws.{distinct-most}
 use Rattle.tree.proofs.WritingLaws.{wrote-nothing, wrote-one, wrote-then, wrote-as, wrote-over}
-use Rattle.sheet.specs.Reading.{mostGroups, mostBytes, State, place, trees, first, orderFault, kindFault, faultOf, entered, next, blank, Outcome, accepted, refused, LiftLine}
+use Rattle.sheet.specs.Reading.{mostGroups, State, ended, trees, first, orderFault, kindFault, faultOf, entered, next, blank, accepted}
 use Rattle.sheet.specs.Holding.{InRange, Sound, Holds, Stepped, Gives}
 use Rattle.sheet.specs.declared.Line.{Line}
 use Rattle.sheet.specs.declared.Line.the-variants.{Group, Operator, Lift, Mark, End, Bad}
 use Rattle.sheet.specs.declared.Progress.{Progress}
-use Rattle.sheet.proofs.DistinctLaws.{distinct-fits}
-use Rattle.sheet.proofs.TreeMoreLaws.{more-group, more-operator}
+use Rattle.sheet.proofs.EntriesLaws.{more-group, more-operator}
 use Rattle.sheet.proofs.SoundLaws.{first-none, first-some, first-second, sound-next, sound-mark, sound-lift, sound-end, sound-blank}
 
 -- what was written at the front of zeros
@@ -33,7 +32,7 @@ pub order-second : (f F rest : ℕ) → f ≡ F → f ≡ 0 → first F rest ≡
 order-second f F rest e z = first-second F rest (sym e ∙ z)
 
 pub marks-few : {most : ℕ} {st : State} → Sound most st → length (st .marks) ≤ mostGroups
-marks-few {st = st} S = omega (arith, distinct-fits (st .marks) (st .groups) (S .once) (S .marked), S .different)
+marks-few {st = st} S = omega (arith, distinct-most (st .marks) (st .groups) (S .once) (S .marked), S .different)
 
 module _ {most : ℕ} {st : State} {p : Progress} {tree groups marks : List ℕ} (h : Holds most st p tree groups marks) where
   pub nodes-is : p .nodes ≡ length (st .entries)
@@ -199,12 +198,12 @@ module _ {most : ℕ} {st : State} {p : Progress} {tree groups marks : List ℕ}
   pub mark-room : (g : ℕ) → faultOf most st (Mark g) ≡ 0 → p .marked < length marks
   unfolding faultOf
   mark-room g e =
-      let z = first-none _ _ e in
+      let z : (orderFault (st .phase) (length (trees (st .entries))) 2 ≡ 0) × (kindFault most st (Mark g) ≡ 0) = first-none _ _ e in
       omega (arith, marks-few (sound-mark most st (h .sound) g 0 (z .0) (z .1)), length-append (st .marks) (g ∷ []), marked-is, marks-long)
 
   pub stepped-end : (after : ℕ) → faultOf most st End ≡ 0
       → Stepped most st End after p
-      (record { fault = p .fault; line = p .line + 1; phase = 4; nodes = p .nodes; waiting = p .waiting; different = p .different; marked = p .marked; start = p .start; lifts = p .lifts })
+      (record { fault = p .fault; line = p .line + 1; phase = ended; nodes = p .nodes; waiting = p .waiting; different = p .different; marked = p .marked; start = p .start; lifts = p .lifts })
       tree groups marks
   unfolding faultOf
   stepped-end after e =

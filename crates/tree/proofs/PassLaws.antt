@@ -3,17 +3,16 @@
 use mathlib.Core.Path.{_≡_, refl, sym, ap, subst, _∙_}
 use mathlib.Core.Bool.{Bool, true, false, cond}
 use mathlib.Core.List.{List, [], _∷_, _++_, append-assoc, append-nil}
-use mathlib.Core.Option.{Option, some, none}
+use mathlib.Core.Option.{some, none}
 use Prim.Native.Nat.{ℕ, zero, suc, _+_, _-_, _<_, _≤_}
 use native.Mathlib.Omega.{arith}
 use native.Mathlib.Numerals.{add-one}
 use lib.Dec.{T, T-prop, eqb}
-use borrow.Author.Tests.{eqb-true, eqb-false, eq-eqb}
+use borrow.Author.Tests.{eqb-true}
 use lib.ListN.{length, getD, set, drop, drop-of-length-le}
 use lib.Seq.{drop-cons, getD-set-same, getD-set-other}
 use Rattle.tree.specs.Tree.{Operator, union, difference, Tree, leaf, node, isGroup, postfix, size, sign}
-use Rattle.tree.specs.Pass.{Entry, group, operator, neither, classify, entryOf, fold, operated, pushed, andThen, pass, stacked}
-use Rattle.tree.proofs.TreeLaws.{group-most}
+use Rattle.tree.specs.Pass.{Entry, group, operator, neither, classify, entryOf, fold, pushed, andThen, pass, stacked}
 
 -- ---- what a number of a tree's list is
 pub entry-sign : (o : Operator) → entryOf (sign o) ≡ operator o
@@ -93,7 +92,7 @@ module _ {A : Type 0} (atLeaf : ℕ → (g : ℕ) → T (isGroup g) → A) (atNo
     unfolding stacked
     passing-start t a = refl
 
-    -- below the operators an entry of a tree's list is a group
+    -- one entry on, where that entry is e
     step-on : (t : Tree) (i : ℕ) (s : List A) (e : Entry) → i < length (postfix t) → entryOf (getD (postfix t) i 0) ≡ e
         → pass atLeaf atNode i (drop i (postfix t)) s ≡ andThen atLeaf atNode (pushed atLeaf atNode i e s) (λ s. pass atLeaf atNode (i + 1) (drop (i + 1) (postfix t)) s)
     unfolding pass
