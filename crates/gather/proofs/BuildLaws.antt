@@ -15,13 +15,15 @@ use Rattle.tree.specs.Tree.{Operator, union, difference, sign, Tree, leaf, node
 use Rattle.tree.specs.Writing.{Wrote}
 use Rattle.tree.proofs.TreeLaws.{postfix-length, size-positive}
 use Rattle.tree.proofs.WritingLaws.{wrote-as}
-use Rattle.gather.specs.Building.{postfixOptional, sizeOptional, join, single, expand, mostExpanded, varies, between, constantTree, constantHolder}
+use Rattle.builder.specs.Building.{postfixOptional, sizeOptional, join, single, expand, mostExpanded, between, Segment, Emitted}
+use Rattle.gather.specs.Joining.{varies, constantTree, constantHolder}
 use Rattle.gather.specs.Choosing.{agrees, firstFailing, failing, settled, chosenAt, choice}
-use Rattle.gather.specs.Inner.{rowsOf, Segment, Emitted, Scanned, Room, Some, Joined}
+use Rattle.table.specs.Table.{rowsOf}
+use Rattle.gather.specs.Inner.{Scanned, Room, Some, Joined}
 use Rattle.gather.specs.declared.Choice.{Choice}
 use Rattle.gather.specs.declared.Choice.the-variants.{Never, Constant, Columns}
-use Rattle.gather.proofs.BuildingLaws.{single-leaf, group-holds}
-use Rattle.gather.proofs.EmitLaws.{optional-length, wrote-join}
+use Rattle.builder.proofs.BuildingLaws.{single-leaf, group-holds}
+use Rattle.builder.proofs.EmitLaws.{optional-length, wrote-join}
 use Rattle.gather.proofs.ChoosingLaws.{row-column}
 use Rattle.gather.proofs.JoiningLaws.{first-mark}
 

@@ -16,14 +16,15 @@ use Rattle.tree.specs.Tree.{Operator, union, difference, Tree, size, selects, O
 use Rattle.tree.proofs.TreeLaws.{or-right, is-in-append, selects-equivalent}
 use Rattle.gather.specs.Gathering.{Gathered}
 use Rattle.gather.specs.Columns.{mixed, column, FiveFillings}
-use Rattle.gather.specs.Table.{filling, rowOf}
-use Rattle.gather.specs.Building.{selectsOptional, sizeOptional, OverOptional, join, single, expand, mostExpanded, varies, columnsTree, columnsHolder, constantTree, treeFor, holderFor}
+use Rattle.table.specs.Table.{filling, rowOf, Tabled}
+use Rattle.builder.specs.Building.{selectsOptional, sizeOptional, OverOptional, join, single, expand, mostExpanded}
+use Rattle.gather.specs.Joining.{varies, columnsTree, columnsHolder, constantTree, treeFor, holderFor}
 use Rattle.gather.specs.Choosing.{agrees, firstFailing, failing, settled, chosenAt, choice}
-use Rattle.gather.specs.Inner.{Tabled, Parts, ReadyFor}
+use Rattle.gather.specs.Inner.{Parts, ReadyFor}
 use Rattle.gather.specs.declared.Choice.{Choice}
 use Rattle.gather.specs.declared.Choice.the-variants.{Never, Constant, Columns}
-use Rattle.gather.proofs.TableLaws.{row-below, row-append, row-agree, row-filling, selects-row, value-zero}
-use Rattle.gather.proofs.BuildingLaws.{join-over, join-size, single-over, single-size, beq-true, expand-over, expand-size}
+use Rattle.table.proofs.TableLaws.{row-below, row-append, row-agree, row-filling, selects-row, value-zero}
+use Rattle.builder.proofs.BuildingLaws.{join-over, join-size, single-over, single-size, beq-true, expand-over, expand-size}
 use Rattle.gather.proofs.JoiningLaws.{GatheredOptional, columns-selects, constant-selects, columns-gathered, columns-ready, constant-gathered, first-mark}
 
 -- ---- the first number that fails a test

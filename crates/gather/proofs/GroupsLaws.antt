@@ -7,10 +7,9 @@ use native.Mathlib.Omega.{arith}
 use lib.Dec.{T, eqb}
 use borrow.Author.Tests.{eqb-true, eq-eqb, ne-eqb}
 use lib.ListN.{length, length-append}
-use Rattle.tree.specs.Tree.{Tree, leaf, node, isGroup, Over, leaves, isIn, withNew, collect, groups}
+use Rattle.tree.specs.Tree.{Tree, leaf, node, isGroup, Over, leaves, isIn, withNew, collect, groups, Distinct}
 use Rattle.tree.proofs.TreeLaws.{or-right, is-in-append, over-leaves, leaves-over, over-implies}
-use Rattle.gather.specs.Inner.{Distinct}
-use Rattle.gather.proofs.TableLaws.{in-first, in-rest}
+use Rattle.table.proofs.TableLaws.{in-first, in-rest}
 
 -- ---- membership
 or-none : (a : Bool) → a ≡ (a || false)

@@ -11,12 +11,13 @@ use lib.ListN.{length, getD}
 use Rattle.tree.specs.Tree.{Operator, union, difference, Tree, leaf, node, isGroup, size, selects, Over, isIn}
 use Rattle.tree.proofs.TreeLaws.{size-positive}
 use Rattle.gather.specs.Gathering.{Gathered}
-use Rattle.gather.specs.Table.{rowOf}
-use Rattle.gather.specs.Building.{selectsOptional, sizeOptional, OverOptional, join, single, differs, expand, mostExpanded, varies, columnsTree, columnsHolder, constantTree, constantHolder}
+use Rattle.table.specs.Table.{rowOf}
+use Rattle.builder.specs.Building.{selectsOptional, sizeOptional, OverOptional, join, single, differs, expand, mostExpanded}
+use Rattle.gather.specs.Joining.{varies, columnsTree, columnsHolder, constantTree, constantHolder}
 use Rattle.gather.specs.Inner.{Parts, Ready}
 use Rattle.gather.proofs.GatheringLaws.{unmarked, gathered-whole, gathered-left, gathered-right}
-use Rattle.gather.proofs.TableLaws.{in-first}
-use Rattle.gather.proofs.BuildingLaws.{join-selects, join-over, join-size, single-leaf, single-over, group-holds, every-passes, Passes, implies, implied, implies-by, beq-true, expand-selects, expand-over, expand-size, expand-some}
+use Rattle.table.proofs.TableLaws.{in-first}
+use Rattle.builder.proofs.BuildingLaws.{join-selects, join-over, join-size, single-leaf, single-over, group-holds, every-passes, Passes, implies, implied, implies-by, beq-true, expand-selects, expand-over, expand-size, expand-some}
 
 -- ---- gathered, of no tree or a tree
 pub record GatheredOptional (m : ℕ → Bool) (o : Option Tree) (p : ℕ) : Type 0 where

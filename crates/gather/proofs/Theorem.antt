@@ -8,13 +8,13 @@ use native.Mathlib.Omega.{arith}
 use lib.Dec.{eqb}
 use borrow.Author.Tests.{eqb-true, eq-eqb}
 use lib.ListN.{length}
-use Rattle.tree.specs.Tree.{Tree, isGroup, Over, leaves, isIn, collect}
+use Rattle.tree.specs.Tree.{Tree, isGroup, Over, leaves, isIn, collect, Distinct}
 use Rattle.tree.proofs.TreeLaws.{or-right, is-in-append, over-leaves, over-implies}
 use Rattle.gather.specs.Gathering.{Gathered, CannotBeGathered}
 use Rattle.gather.specs.Columns.{TwoColumns, FiveFillings, Criterion}
-use Rattle.gather.specs.Table.{valueAt}
+use Rattle.table.specs.Table.{valueAt, Tabled}
 use Rattle.gather.specs.Choosing.{choice}
-use Rattle.gather.specs.Inner.{Distinct, Tabled, Parts}
+use Rattle.gather.specs.Inner.{Parts}
 use Rattle.gather.specs.declared.Choice.{Choice}
 use Rattle.gather.specs.declared.Choice.the-variants.{Never, Constant, Columns}
 use Rattle.gather.proofs.GatheringLaws.{unmarked, fillings-cannot, fillings-columns, columns-fillings}

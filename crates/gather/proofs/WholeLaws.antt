@@ -12,17 +12,18 @@ use lib.Dec.{eqb, ltb}
 use borrow.Author.Tests.{lt-ltb, le-ltb, ltb-true, ltb-false, eqb-true, eqb-false, eq-eqb, not-true, not-false}
 use lib.ListN.{length, getD, take, drop, length-append, length-drop, take-append-drop}
 use lib.Seq.{take-all, take-at, drop-at, length-take-le}
-use Rattle.tree.specs.Tree.{Tree, sign, union, isGroup, postfix, size, mostNodes, Over, leaves, isIn, withNew, collect, groups, Equivalent}
+use Rattle.tree.specs.Tree.{Tree, sign, union, isGroup, postfix, size, mostNodes, Over, leaves, isIn, withNew, collect, groups, Equivalent, Distinct}
 use Rattle.tree.specs.Parse.{treeOf}
 use Rattle.tree.specs.Writing.{over, Wrote}
 use Rattle.tree.proofs.TreeLaws.{postfix-length, equivalent-refl, over-implies, or-right, is-in-append, group-most}
 use Rattle.tree.proofs.ParseLaws.{IsTree, tree-of-sound, tree-of-postfix, parse-sound, postfix-injective}
 use Rattle.tree.proofs.WritingLaws.{wrote-over}
 use Rattle.gather.specs.Gathering.{Gathered, CannotBeGathered}
-use Rattle.gather.specs.Table.{rowCount, valueAt, table}
-use Rattle.gather.specs.Building.{postfixOptional, sizeOptional, expand, mostExpanded, varies, removedTree, removedHolder, keptTree, keptHolder, nestedTree, nestedHolder, columnsTree, columnsHolder, treeFor, holderFor}
+use Rattle.table.specs.Table.{rowCount, valueAt, table, rowsOf, Tabled, Listed}
+use Rattle.builder.specs.Building.{postfixOptional, sizeOptional, expand, mostExpanded}
+use Rattle.gather.specs.Joining.{varies, removedTree, removedHolder, keptTree, keptHolder, nestedTree, nestedHolder, columnsTree, columnsHolder, treeFor, holderFor}
 use Rattle.gather.specs.Choosing.{choice}
-use Rattle.gather.specs.Inner.{rowsOf, Distinct, Tabled, Parts, leavesIn, Listed, Collected, Scanned, Room, Some, Ready, ReadyFor, Joined, BuiltFor, Ordered}
+use Rattle.gather.specs.Inner.{Parts, leavesIn, Collected, Scanned, Room, Some, Ready, ReadyFor, Joined, BuiltFor, Ordered}
 use Rattle.gather.specs.Answer.{badMark, groupsFault, treeFault, fault, GatheredTo, GathersTree}
 use Rattle.gather.specs.declared.Choice.{Choice}
 use Rattle.gather.specs.declared.Status.the-variants.{Free, Mixed}
@@ -30,11 +31,11 @@ use Rattle.gather.specs.declared.Choice.the-variants.{Never, Constant, C
 use Rattle.gather.specs.declared.Gathering.{Gathering}
 use Rattle.gather.specs.declared.Gathering.the-variants.{Done, Refused}
 use Rattle.gather.proofs.GatheringLaws.{fillings-cannot}
-use Rattle.gather.proofs.TableLaws.{table-at, rows-most, in-first, in-rest}
+use Rattle.table.proofs.TableLaws.{table-at, rows-most, in-first, in-rest}
 use Rattle.gather.proofs.GroupsLaws.{or-cases, in-collect, distinct-collect, distinct-split, collect-begins, no-more, leaves-groups, in-groups, over-collect}
 use Rattle.gather.proofs.ChoosingLaws.{Result, Verdict, verdict}
 use Rattle.gather.proofs.HoldingLaws.{Names, status-gathered, status-not}
-use Rattle.gather.proofs.EmitLaws.{optional-length}
+use Rattle.builder.proofs.EmitLaws.{optional-length}
 use Rattle.gather.proofs.LoopLaws.{leaves-postfix}
 
 -- ---- the three forms of the columns' tree

@@ -12,7 +12,7 @@ use Rattle.tree.specs.Tree.{Tree, postfix, size, mostNodes, Over, leaves, isIn,
 use Rattle.tree.proofs.TreeLaws.{or-right, over-leaves, leaves-over, over-implies}
 use Rattle.tree.proofs.GroupLaws.{groups-leaves, groups-most, over-groups, is-in-here}
 use Rattle.tree.proofs.ParseLaws.{tree-of-postfix}
-use Rattle.gather.specs.Table.{mostGroups}
+use Rattle.table.specs.Table.{mostGroups}
 use Rattle.gather.specs.Answer.{badMark, fault}
 use Rattle.lift.proofs.LiftLaws.{Keeps}
 use Rattle.key.specs.Inner.{Markable}

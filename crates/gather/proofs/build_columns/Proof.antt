@@ -11,51 +11,39 @@ use Rattle.gather.proofs.build_nested.Reads as build-nested-reads
 use Rattle.gather.proofs.build_removed.Reads as build-removed-reads
 use Rattle.gather.proofs.varying.Reads as varying-reads
 
--- src/lib.rt:621:16
 element-copy-out-held : tie.Need-element-copy-out-held
 element-copy-out-held c = search needs
 
--- src/lib.rt:623:9
 build-removed-requires : tie.Need-build-removed-requires
 build-removed-requires c κs = let p = c .before .before .before .before .before .before .pre in (p .0, p .1 .0 .sometimes (p .1 .0 .first (c .before .if1 .taken)))
 
--- src/lib.rt:623:9
 same-length : tie.Need-same-length
 same-length c = search needs
 
--- src/lib.rt:623:9
 returns : tie.Need-returns
 returns c = joined-removed _ (c .before .before .before .before .before .before .before .before .before .pre .0) (c .before .before .before .before .if1 .taken) (c .before .before .build-removed .ensures)
 
--- src/lib.rt:625:21
 element-copy-out-sometimes : tie.Need-element-copy-out-sometimes
 element-copy-out-sometimes c = search needs
 
--- src/lib.rt:627:9
 build-kept-requires : tie.Need-build-kept-requires
 build-kept-requires c κs = search needs
 
--- src/lib.rt:627:9
 same-length-2 : tie.Need-same-length-2
 same-length-2 c = search needs
 
--- src/lib.rt:627:9
 returns-2 : tie.Need-returns-2
 returns-2 c = joined-kept _ (c .before .before .before .before .before .before .before .before .before .before .before .pre .0) (c .before .before .before .before .before .before .if1 .left) (c .before .before .before .before .if2 .taken) (c .before .before .build-kept .ensures)
 
--- src/lib.rt:629:13
 varying-requires : tie.Need-varying-requires
 varying-requires c κs = let p = c .before .before .before .before .before .before .before .pre in ((omega (arith, p .0 .low-below), p .0 .low-below, p .0 .divides), p .1 .1)
 
--- src/lib.rt:630:5
 build-nested-requires : tie.Need-build-nested-requires
 build-nested-requires c κs = let p = c .before .before .before .before .before .before .before .before .before .before .pre in (room-zero (p .0), (p .1 .0 .sometimes (c .before .before .before .if2 .left), some-as _ _ _ _ _ _ (c .before .before .varying .ensures) (p .1 .0 .varying (c .before .before .before .if2 .left))))
 
--- src/lib.rt:616:1
 same-length-3 : tie.Need-same-length-3
 same-length-3 c = search needs
 
--- src/lib.rt:616:1
 returns-3 : tie.Need-returns-3
 returns-3 c = joined-nested _ (c .before .before .before .before .before .before .before .before .before .before .before .before .before .pre .0) _ (c .before .before .before .before .before .varying .ensures) (c .before .before .before .before .before .before .before .before .if1 .left) (c .before .before .before .before .before .before .if2 .left) (c .before .before .build-nested .ensures)
 

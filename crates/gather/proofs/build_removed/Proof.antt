@@ -1,45 +1,37 @@
 use mathlib.Core.Path.{_≡_, sym, ap, _∙_}
 use native.Mathlib.Omega.{arith}
 use Rattle.tree.specs.Tree.{difference, sign}
-use Rattle.gather.proofs.EmitLaws.{between-short}
+use Rattle.builder.proofs.EmitLaws.{between-short}
 use Rattle.gather.proofs.BuildLaws.{others-segment, marks-segment, past, wrote-three, wrote-union, second-ends, third-ends}
 use borrow.Author.Needs.{needs}
 use Rattle.gather.proofs.build_removed.Statement.{statement}
 use Rattle.gather.proofs.build_removed.Tie as tie
 use Rattle.gather.proofs.build_removed.Reads as reads
 use Rattle.gather.proofs.build_removed.Lts as lts
-use Rattle.gather.proofs.emit.Reads as emit-reads
-use Rattle.gather.proofs.operate.Reads as operate-reads
+use Rattle.builder.proofs.emit.Reads as emit-reads
+use Rattle.builder.proofs.operate.Reads as operate-reads
 
--- src/lib.rt:561:9
 emit-requires : tie.Need-emit-requires
 emit-requires c κs = let r = c .before .before .before .before .pre .0 in (others-segment r _ (r .low-below), omega (arith, r .space))
 
--- src/lib.rt:562:9
 emit-requires-2 : tie.Need-emit-requires-2
 emit-requires-2 c κs = let r = c .before .before .before .before .before .before .before .before .pre .0 in (others-segment r _ (r .high-below), omega (arith, r .space, c .before .before .before .emit .ensures .most, c .before .before .before .emit .ensures .wrote .same))
 
--- src/lib.rt:563:9
 emit-requires-3 : tie.Need-emit-requires-3
 emit-requires-3 c κs = let r = c .before .before .before .before .before .before .before .before .before .before .before .before .pre .0 in (marks-segment r, omega (arith, r .space, c .before .before .before .emit2 .ensures .most, c .before .before .before .emit2 .ensures .wrote .same, c .before .before .before .before .before .before .before .emit .ensures .most, c .before .before .before .before .before .before .before .emit .ensures .wrote .same))
 
--- src/lib.rt:564:9
 operate-requires : tie.Need-operate-requires
 operate-requires c κs = search needs
 
--- src/lib.rt:565:9
 operate-requires-2 : tie.Need-operate-requires-2
 operate-requires-2 c κs = let r = c .before .before .before .before .before .before .before .before .before .before .before .before .before .before .before .before .before .before .before .before .pre .0 in omega (arith, r .space, c .before .before .before .operate .ensures .ends, c .before .before .before .operate .ensures .same, between-short (c .before .before .before .before .before .before .before .before .before .before .before .before .before .before .before .emit .result) (c .before .before .before .before .before .before .before .before .before .before .before .emit2 .result) (c .before .before .before .before .before .before .before .emit3 .result) (sign difference), c .before .before .before .before .before .before .before .emit3 .ensures .most, c .before .before .before .before .before .before .before .emit3 .ensures .wrote .same, c .before .before .before .before .before .before .before .before .before .before .before .emit2 .ensures .most, c .before .before .before .before .before .before .before .before .before .before .before .emit2 .ensures .wrote .same, c .before .before .before .before .before .before .before .before .before .before .before .before .before .before .before .emit .ensures .most, c .before .before .before .before .before .before .before .before .before .before .before .before .before .before .before .emit .ensures .wrote .same)
 
--- src/lib.rt:566:29
 sub-t25 : tie.Need-sub-t25
 sub-t25 c = omega (arith, c .before .before .before .before .before .before .before .before .before .before .emit3 .ensures .wrote .ends, past (c .before .before .before .before .before .before .before .before .before .before .before .before .before .before .before .before .before .before .before .before .before .before .before .pre .1) (c .before .before .before .before .before .before .before .before .before .before .before .before .before .before .emit2 .ensures))
 
--- src/lib.rt:556:1
 same-length : tie.Need-same-length
 same-length c = search needs
 
--- src/lib.rt:556:1
 returns : tie.Need-returns
 returns c = let f = c .before .before .before .before .before .before .before .before .before .before .before .before .before .before .before .before .before .before .emit .ensures in let g = c .before .before .before .before .before .before .before .before .before .before .before .before .before .before .emit2 .ensures in let h = c .before .before .before .before .before .before .before .before .before .before .emit3 .ensures in record { wrote = wrote-union f g h (c .before .before .before .before .before .before .operate .ensures) (c .before .before .before .before .before .before .before .before .before .before .before .before .before .before .before .before .before .before .before .before .before .before .before .pre .1) (c .before .before .operate2 .ensures); held = third-ends f g h (c .before .before .before .before .before .before .operate .ensures) (c .before .before .before .before .before .before .before .before .before .before .before .before .before .before .before .before .before .before .before .before .before .before .before .pre .1) }
 

@@ -8,39 +8,30 @@ use Rattle.gather.proofs.choose.Lts as lts
 use Rattle.gather.proofs.first_failing.Reads as first-failing-reads
 use Rattle.gather.proofs.settle.Reads as settle-reads
 
--- src/lib.rt:522:9
 first-failing-requires : tie.Need-first-failing-requires
 first-failing-requires c κs = search needs
 
--- src/lib.rt:524:17
 rem-p : tie.Need-rem-p
 rem-p c = search needs
 
--- src/lib.rt:525:21
 sub-start : tie.Need-sub-start
 sub-start c = mod-le _ _
 
--- src/lib.rt:526:21
 element-copy-out-value : tie.Need-element-copy-out-value
 element-copy-out-value c = search needs
 
--- src/lib.rt:528:13
 settle-requires : tie.Need-settle-requires
 settle-requires c κs = let s = c .before .before .before .before .pre in scanned-at _ _ _ _ _ s (c .before .before .if1 .taken) (s .positive) (mod-lt _ (s .positive))
 
--- src/lib.rt:528:13
 returns : tie.Need-returns
 returns c = choice-true _ _ _ _ (c .before .before .before .before .first-failing .ensures .0) _ (c .before .before .before .if1 .taken) (c .before .if2 .taken) (c .settle .ensures)
 
--- src/lib.rt:530:9
 settle-requires-2 : tie.Need-settle-requires-2
 settle-requires-2 c κs = let s = c .before .before .before .before .pre in scanned-at _ _ _ _ _ s (c .before .before .if1 .taken) (mod-lt _ (s .positive)) (s .positive)
 
--- src/lib.rt:530:9
 returns-2 : tie.Need-returns-2
 returns-2 c = choice-false _ _ _ _ (c .before .before .before .before .first-failing .ensures .0) _ (c .before .before .before .if1 .taken) (c .before .if2 .left) (c .settle2 .ensures)
 
--- src/lib.rt:518:1
 returns-3 : tie.Need-returns-3
 returns-3 c = choice-constant _ _ _ _ (c .before .first-failing .ensures .0) (c .if1 .left)
 

@@ -2,7 +2,7 @@ use mathlib.Core.Path.{_≡_, refl, sym, _∙_}
 use Prim.Native.Nat.{ℕ, _≤_, _-_}
 use native.Mathlib.Omega.{arith}
 use Rattle.gather.specs.Choosing.{agrees, firstFailing}
-use Rattle.gather.specs.Inner.{rowsOf}
+use Rattle.table.specs.Table.{rowsOf}
 use Rattle.gather.proofs.BuildLaws.{agrees-inside, failing-turn, failing-stop, failing-end, failing-start}
 use Rattle.gather.proofs.first_failing.Statement.{statement}
 use Rattle.gather.proofs.first_failing.Tie as tie
@@ -16,31 +16,24 @@ Inv-loop t w total low high start i₀ i = (i ≤ total) × (firstFailing (agree
 abbrev μ-loop : tie.MeasureT-loop
 μ-loop t w total low high start i₀ i = total - i
 
--- src/lib.rt:494:5
 loop-holds : tie.Need-loop-holds Inv-loop μ-loop
 loop-holds c = (omega arith, failing-start _ _)
 
--- src/lib.rt:495:13
 agrees-at-requires : tie.Need-agrees-at-requires Inv-loop μ-loop
 agrees-at-requires c κs = agrees-inside _ _ _ _ _ _ (c .before .before .pre) (c .loop-test .taken)
 
--- src/lib.rt:497:13
 add-i : tie.Need-add-i Inv-loop μ-loop
 add-i c = omega arith
 
--- src/lib.rt:494:5
 loop-less : tie.Need-loop-less Inv-loop μ-loop
 loop-less c = omega arith
 
--- src/lib.rt:494:5
 loop-again : tie.Need-loop-again Inv-loop μ-loop
 loop-again c = (omega arith, sym (failing-turn _ (c .before .before .before .loop .i) _ (c .before .before .loop-test .taken) (sym (c .before .agrees-at .ensures) ∙ c .if1 .taken)) ∙ c .before .before .before .loop .inv .1)
 
--- src/lib.rt:499:13
 returns : tie.Need-returns Inv-loop μ-loop
 returns c = (sym (failing-stop _ (c .before .before .before .loop .i) _ (c .before .before .loop-test .taken) (sym (c .before .agrees-at .ensures) ∙ c .if1 .left)) ∙ c .before .before .before .loop .inv .1, omega arith)
 
--- src/lib.rt:489:1
 returns-2 : tie.Need-returns-2 Inv-loop μ-loop
 returns-2 c = (sym (failing-end _ (c .before .loop .i) _ (c .loop-test .left)) ∙ c .before .loop .inv .1, omega arith)
 

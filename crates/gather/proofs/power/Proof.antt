@@ -13,27 +13,21 @@ Inv-loop k s₀ i₀ s i = (i ≤ k) × (s ≡ 2 ^ i)
 abbrev μ-loop : tie.MeasureT-loop
 μ-loop k s₀ i₀ s i = k - i
 
--- src/lib.rt:459:5
 loop-holds : tie.Need-loop-holds Inv-loop μ-loop
 loop-holds c = (omega arith, refl)
 
--- src/lib.rt:460:13
 add-s : tie.Need-add-s Inv-loop μ-loop
 add-s c = omega (arith, power-small (c .before .loop .s) (c .before .loop .i) (c .before .before .args .k) (c .before .loop .inv .1) (c .before .loop .inv .0) (c .before .before .pre))
 
--- src/lib.rt:461:9
 add-i : tie.Need-add-i Inv-loop μ-loop
 add-i c = omega arith
 
--- src/lib.rt:459:5
 loop-less : tie.Need-loop-less Inv-loop μ-loop
 loop-less c = omega arith
 
--- src/lib.rt:459:5
 loop-again : tie.Need-loop-again Inv-loop μ-loop
 loop-again c = (omega arith, power-turn (c .before .loop .s) (c .before .loop .i) (c .before .loop .inv .1))
 
--- src/lib.rt:453:1
 returns : tie.Need-returns Inv-loop μ-loop
 returns c = c .before .loop .inv .1 ∙ ap (λ n. 2 ^ n) (omega arith)
 

@@ -1,4 +1,4 @@
-use Rattle.gather.proofs.BuildLaws.{varies-all}
+use Rattle.gather.proofs.BuildLaws.{varies-all, column-end, varies-more, varies-here}
 use mathlib.Core.Path.{_≡_, refl, sym, ap, _∙_}
 use mathlib.Core.Bool.{Bool, true, false}
 use borrow.Author.Count.{below-more}
@@ -8,9 +8,8 @@ use native.Mathlib.Nat.{mod-le}
 use native.Mathlib.Omega.{arith}
 use lib.ListN.{length, getD, length-set, List·getD-eq-default}
 use lib.Seq.{getD-set-same, getD-set-other}
-use Rattle.gather.specs.Building.{varies}
-use Rattle.gather.specs.Inner.{rowsOf}
-use Rattle.gather.proofs.BuildLaws.{column-end, varies-more, varies-here}
+use Rattle.gather.specs.Joining.{varies}
+use Rattle.table.specs.Table.{rowsOf}
 use Rattle.gather.proofs.varying.Statement.{statement}
 use Rattle.gather.proofs.varying.Tie as tie
 use Rattle.gather.proofs.varying.Reads as reads
@@ -22,47 +21,36 @@ Inv-loop t w low d₀ i₀ d i = (i ≤ 256) × (length d ≡ 256) × ((k : ℕ)
 abbrev μ-loop : tie.MeasureT-loop
 μ-loop t w low d₀ i₀ d i = 256 - i
 
--- src/lib.rt:590:5
 loop-holds : tie.Need-loop-holds Inv-loop μ-loop
 loop-holds c = (omega arith, refl, λ k h. absurd (omega arith))
 
--- src/lib.rt:591:24
 rem-base : tie.Need-rem-base Inv-loop μ-loop
 rem-base c = c .before .before .pre .0 .0
 
--- src/lib.rt:591:20
 sub-base : tie.Need-sub-base Inv-loop μ-loop
 sub-base c = mod-le _ _
 
--- src/lib.rt:592:17
 element-copy-out-x : tie.Need-element-copy-out-x Inv-loop μ-loop
 element-copy-out-x c = omega arith
 
--- src/lib.rt:593:19
 add-y : tie.Need-add-y Inv-loop μ-loop
 add-y c = let p = c .before .before .before .pre .0 in omega (arith, column-end (c .before .before .before .args .w) (p .2 .0) (c .before .before .loop .i) 256 (p .0) (p .2 .1) (c .before .loop-test .taken))
 
--- src/lib.rt:593:17
 element-copy-out-y : tie.Need-element-copy-out-y Inv-loop μ-loop
 element-copy-out-y c = let p = c .before .before .before .pre .0 in omega (arith, column-end (c .before .before .before .args .w) (p .2 .0) (c .before .before .loop .i) 256 (p .0) (p .2 .1) (c .before .loop-test .taken))
 
--- src/lib.rt:594:9
 array-write-d : tie.Need-array-write-d Inv-loop μ-loop
 array-write-d c = omega arith
 
--- src/lib.rt:595:9
 add-i : tie.Need-add-i Inv-loop μ-loop
 add-i c = omega arith
 
--- src/lib.rt:590:5
 loop-less : tie.Need-loop-less Inv-loop μ-loop
 loop-less c = omega arith
 
--- src/lib.rt:590:5
 loop-again : tie.Need-loop-again Inv-loop μ-loop
 loop-again c = let l = c .before .before .before .loop in let a = c .before .before .before .before .args in (omega arith, simp length-set (l .inv .1), below-more _ (l .i) (λ k h. getD-set-other (l .d) (l .i) k _ false (omega arith) ∙ l .inv .2 k h) (getD-set-same (l .d) (l .i) _ false (omega arith) ∙ varies-here (a .t .now) (a .w) (a .low) (l .i)))
 
--- src/lib.rt:584:1
 returns : tie.Need-returns Inv-loop μ-loop
 returns c = let l = c .before .loop in let a = c .before .before .args in varies-all (a .t .now) (l .d) (a .w) (a .low) (l .i) (c .loop-test .left) (l .inv .1) (c .before .before .pre .1) (l .inv .2)
 
