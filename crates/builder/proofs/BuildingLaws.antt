@@ -1,18 +1,18 @@
 -- The builder: the expansion of a table selects by the table, is over its groups, and is small.
 -- Each form's truth is one computed test over all values; the rest is one law for union and difference with the empty case.
 use mathlib.Core.Path.{_≡_, refl, sym, ap, ap₂, subst, _∙_}
-use mathlib.Core.Bool.{Bool, true, false, not, cond, Bool·beq, _&&_, _||_, true≢false, false≢true}
-use mathlib.Core.List.{List, [], _∷_, _++_}
+use mathlib.Core.Bool.{Bool, true, false, not, cond, Bool·beq, _&&_, _||_, false≢true}
+use mathlib.Core.List.{List, [], _∷_}
 use mathlib.Core.Option.{Option, some, none}
 use Prim.Native.Nat.{ℕ, zero, suc, _+_, _-_, _*_, _^_, _<_, _≤_}
 use native.Mathlib.Nat.{mul-add, add-mul, mul-suc, mul-left-comm}
 use native.Mathlib.Omega.{arith}
 use lib.Dec.{T}
 use lib.ListN.{length}
-use Rattle.tree.specs.Tree.{Operator, union, difference, Tree, leaf, node, isGroup, postfix, size, apply, selects, Over, isIn, Distinct}
-use Rattle.tree.specs.Pass.{entryOf}
+use Rattle.tree.specs.Tree.{Operator, union, difference, Tree, leaf, isGroup, size, apply, selects, Over, isIn, Distinct}
+use Rattle.tree.proofs.GroupLaws.{is-in-here, in-later}
 use Rattle.tree.proofs.PassLaws.{entry-leaf}
-use Rattle.table.proofs.TableLaws.{row-below, row-filling, in-first, in-rest}
+use Rattle.table.proofs.TableLaws.{row-below, row-filling}
 use Rattle.table.specs.Table.{filling, rowOf}
 use Rattle.builder.specs.Building.{selectsOptional, sizeOptional, OverOptional, join, leafOf, single, formed, differs, within, formOf, expand, mostExpanded}
 use Rattle.builder.specs.declared.Form.{Form}
@@ -127,21 +127,17 @@ abbrev pub Passes : (n : ℕ) → Test n → Type 0
 Passes zero f = f ≡ true
 Passes (suc n) f = (b : Bool) → Passes n (f b)
 
-both-left : (x y : Bool) → x && y ≡ true → x ≡ true
-both-left true y e = refl
-both-left false y e = e
-
-both-right : (x y : Bool) → x && y ≡ true → y ≡ true
-both-right true y e = e
-both-right false y e = absurd (false≢true e)
+pub both : (x y : Bool) → (x && y) ≡ true → (x ≡ true) × (y ≡ true)
+both true y e = (refl, e)
+both false y e = absurd (false≢true e)
 
 pub every-passes : (n : ℕ) (f : Test n) → every n f ≡ true → Passes n f
 every-passes zero f e = e
 every-passes (suc n) f e = λ b. go b (every-passes n (f true)) (every-passes n (f false))
   where
     go : (b : Bool) → (every n (f true) ≡ true → Passes n (f true)) → (every n (f false) ≡ true → Passes n (f false)) → Passes n (f b)
-    go true h k = h (both-left (every n (f true)) (every n (f false)) e)
-    go false h k = k (both-right (every n (f true)) (every n (f false)) e)
+    go true h k = h (both (every n (f true)) (every n (f false)) e .0)
+    go false h k = k (both (every n (f true)) (every n (f false)) e .1)
 
 abbrev pub implies : Bool → Bool → Bool
 implies a b = not a || b
@@ -217,10 +213,10 @@ expand-selects Ta off step [] gr v = sym (ap (λ (i : ℕ). differs (Ta i) (Ta o
     go true = refl
     go false = refl
 expand-selects Ta off step (x ∷ gs) gr v =
-    formed-selects v x (expand Ta off (step + step) gs) (expand Ta (off + step) (step + step) gs) (gr x (in-first x gs)) (formOf Ta off (off + step) (step + step) (2 ^ length gs))
+    formed-selects v x (expand Ta off (step + step) gs) (expand Ta (off + step) (step + step) gs) (gr x (is-in-here x gs)) (formOf Ta off (off + step) (step + step) (2 ^ length gs))
     ∙ ap₂ (λ (l u : Bool). formValue (formOf Ta off (off + step) (step + step) (2 ^ length gs)) (v x) l u)
-    (expand-selects Ta off (step + step) gs (λ g e. gr g (in-rest x g gs e)) v)
-    (expand-selects Ta (off + step) (step + step) gs (λ g e. gr g (in-rest x g gs e)) v)
+    (expand-selects Ta off (step + step) gs (λ g e. gr g (in-later x gs g e)) v)
+    (expand-selects Ta (off + step) (step + step) gs (λ g e. gr g (in-later x gs g e)) v)
     ∙ form-right (Ta off) (Ta (off + step)) (Ta (off + (step + step) * rowOf v gs)) (Ta (off + step + (step + step) * rowOf v gs)) (v x)
     (within Ta (Ta off) off (off + step) (step + step) (2 ^ length gs)) (within Ta (Ta off) (off + step) off (step + step) (2 ^ length gs))
     (within-at Ta (Ta off) off (off + step) (step + step) (2 ^ length gs) (rowOf v gs) (row-below v gs))
@@ -232,18 +228,18 @@ pub expand-over : (m Ta : ℕ → Bool) (off step : ℕ) (gs : List ℕ) → ((g
 unfolding expand
 expand-over m Ta off step [] gr h = tt
 expand-over m Ta off step (x ∷ gs) gr h =
-    formed-over m x _ _ (gr x (in-first x gs)) (h x (in-first x gs))
-    (expand-over m Ta off (step + step) gs (λ g e. gr g (in-rest x g gs e)) (λ g e. h g (in-rest x g gs e)))
-    (expand-over m Ta (off + step) (step + step) gs (λ g e. gr g (in-rest x g gs e)) (λ g e. h g (in-rest x g gs e)))
+    formed-over m x _ _ (gr x (is-in-here x gs)) (h x (is-in-here x gs))
+    (expand-over m Ta off (step + step) gs (λ g e. gr g (in-later x gs g e)) (λ g e. h g (in-later x gs g e)))
+    (expand-over m Ta (off + step) (step + step) gs (λ g e. gr g (in-later x gs g e)) (λ g e. h g (in-later x gs g e)))
     (formOf Ta off (off + step) (step + step) (2 ^ length gs))
 
 pub expand-size : (Ta : ℕ → Bool) (off step : ℕ) (gs : List ℕ) → ((g : ℕ) → isIn gs g ≡ true → isGroup g ≡ true) → sizeOptional (expand Ta off step gs) ≤ mostExpanded (length gs)
 unfolding expand mostExpanded
 expand-size Ta off step [] gr = omega arith
 expand-size Ta off step (x ∷ gs) gr =
-    let a = expand-size Ta off (step + step) gs (λ g e. gr g (in-rest x g gs e)) in
-    let b = expand-size Ta (off + step) (step + step) gs (λ g e. gr g (in-rest x g gs e)) in
-    let c = formed-size (formOf Ta off (off + step) (step + step) (2 ^ length gs)) x (expand Ta off (step + step) gs) (expand Ta (off + step) (step + step) gs) (gr x (in-first x gs)) in
+    let a = expand-size Ta off (step + step) gs (λ g e. gr g (in-later x gs g e)) in
+    let b = expand-size Ta (off + step) (step + step) gs (λ g e. gr g (in-later x gs g e)) in
+    let c = formed-size (formOf Ta off (off + step) (step + step) (2 ^ length gs)) x (expand Ta off (step + step) gs) (expand Ta (off + step) (step + step) gs) (gr x (is-in-here x gs)) in
     omega arith
 
 -- a row that differs from the first needs a tree

@@ -1,27 +1,27 @@
 -- What the writers write, put together: an operator between two trees that may be empty, and a group's form.
 use mathlib.Core.Path.{_≡_, refl, sym, ap, ap₂, subst, _∙_}
-use mathlib.Core.Bool.{Bool, true, false, not, cond, Bool·beq, _&&_}
+use mathlib.Core.Bool.{Bool, true, false, cond, Bool·beq, _&&_}
 use mathlib.Core.List.{List, [], _∷_, _++_, append-assoc, append-nil}
 use mathlib.Core.Option.{Option, some, none}
-use Prim.Native.Nat.{ℕ, zero, suc, _+_, _-_, _*_, _/_, _^_, _≤_, _<_}
+use Prim.Native.Nat.{ℕ, suc, _+_, _-_, _*_, _/_, _^_, _≤_, _<_}
 use native.Mathlib.Nat.{mul-suc, pow-suc, mul-le-mul-left}
 use native.Mathlib.Omega.{arith}
 use lib.Pow.{pow-pos}
 use lib.Dec.{eqb}
 use borrow.Author.Tests.{eq-eqb, ne-eqb}
-use lib.ListN.{length, getD, drop, length-append, length-drop}
+use lib.ListN.{length, getD, drop, length-append}
 use lib.Seq.{drop-length}
-use Rattle.tree.specs.Tree.{Operator, union, difference, sign, Tree, leaf, node, isGroup, postfix, size, isIn}
+use Rattle.tree.specs.Tree.{Operator, union, difference, sign, Tree, isGroup, postfix, isIn}
 use Rattle.tree.specs.Writing.{Wrote}
 use Rattle.tree.proofs.TreeLaws.{postfix-length, size-positive}
+use Rattle.tree.proofs.GroupLaws.{is-in-here, in-later}
 use Rattle.tree.proofs.PassLaws.{here}
 use Rattle.tree.proofs.WritingLaws.{wrote-nothing, wrote-then, wrote-as}
 use Rattle.table.specs.Table.{rowsOf}
-use Rattle.table.proofs.TableLaws.{in-first, in-rest}
 use Rattle.builder.specs.Building.{postfixOptional, sizeOptional, join, single, formed, differs, within, formOf, expand, mostExpanded, opening, outer, between, closing, Segment, Emitted}
 use Rattle.builder.specs.declared.Form.{Form}
 use Rattle.builder.specs.declared.Form.the-variants.{Lower, Less, JoinedLess, Plus, ReducedPlus}
-use Rattle.builder.proofs.BuildingLaws.{single-leaf, group-holds, twice-times, expand-size}
+use Rattle.builder.proofs.BuildingLaws.{single-leaf, twice-times, expand-size}
 
 -- ---- one turn of `within`
 less-one : (n : ℕ) → 0 < n → n ≡ suc (n - 1)
@@ -232,7 +232,7 @@ halved gs j off step rows s n =
     let d : (step + step) * (rows / 2) ≡ step * rows = twice-times step (rows / 2) ∙ ap (λ (i : ℕ). step * i) (omega arith) in
     let b : step * 2 ≤ step * rows = mul-le-mul-left step (omega arith) in
     let i : (g : ℕ) → isIn (drop (j + 1) gs) g ≡ true → isGroup g ≡ true
-    = λ g q. s .groups g (ap (λ (ys : List ℕ). isIn ys g) e ∙ in-rest (getD gs j 0) g (drop (j + 1) gs) q) in
+    = λ g q. s .groups g (ap (λ (ys : List ℕ). isIn ys g) e ∙ in-later (getD gs j 0) (drop (j + 1) gs) g q) in
     record {
       less = l;
       falls = omega arith;
@@ -240,7 +240,7 @@ halved gs j off step rows s n =
       lower = record { within = omega arith; count = omega arith; inside = omega (arith, s .inside); small = omega (arith, s .inside); groups = i };
       upper = record { within = omega arith; count = omega arith; inside = omega (arith, s .inside); small = omega (arith, s .inside); groups = i };
       nodes = ap mostExpanded f;
-      group = s .groups (getD gs j 0) (ap (λ (ys : List ℕ). isIn ys (getD gs j 0)) e ∙ in-first (getD gs j 0) (drop (j + 1) gs));
+      group = s .groups (getD gs j 0) (ap (λ (ys : List ℕ). isIn ys (getD gs j 0)) e ∙ is-in-here (getD gs j 0) (drop (j + 1) gs));
     }
 
 -- ---- the three ends of `emit`

@@ -1,29 +1,29 @@
 -- The writers of the gathered tree: three trees and two operators each; and one turn of the scans over the table.
-use mathlib.Core.Path.{_≡_, refl, sym, ap, ap₂, subst, fun-ext, _∙_}
-use mathlib.Core.Bool.{Bool, true, false, not, cond, _&&_, true≢false, false≢true}
-use mathlib.Core.List.{List, [], _∷_, _++_}
-use mathlib.Core.Option.{Option, some, none}
-use Prim.Native.Nat.{ℕ, zero, suc, _+_, _-_, _*_, _/_, _%_, _^_, _<_, _≤_}
-use native.Mathlib.Nat.{mul-suc, mul-le-mul-left, mod-lt, mod-le, mod-add-div, two-pow-succ, one-mul}
+use mathlib.Core.Path.{_≡_, refl, sym, ap, ap₂, subst, _∙_}
+use mathlib.Core.Bool.{Bool, true, false, not, cond, _&&_}
+use mathlib.Core.List.{List, [], _∷_}
+use mathlib.Core.Option.{Option, none}
+use Prim.Native.Nat.{ℕ, suc, _+_, _-_, _*_, _/_, _%_, _^_, _<_, _≤_}
+use native.Mathlib.Nat.{mul-suc, mul-le-mul-left, mod-lt, mod-add-div, two-pow-succ, one-mul}
 use native.Mathlib.Omega.{arith}
 use native.Mathlib.Numerals.{add-one}
-use lib.Pow.{pow-pos, pow-mono, pow-add}
-use lib.Dec.{eqb, ltb}
+use lib.Pow.{pow-mono}
+use lib.Dec.{ltb}
 use borrow.Author.Tests.{lt-ltb, le-ltb, ltb-true, ltb-false}
-use lib.ListN.{length, getD, drop, List·getD-eq-default}
-use Rattle.tree.specs.Tree.{Operator, union, difference, sign, Tree, leaf, node, isGroup, postfix, size, isIn}
+use lib.ListN.{length, getD, List·getD-eq-default}
+use Rattle.tree.specs.Tree.{Operator, union, difference, sign, Tree, isGroup, postfix, isIn}
 use Rattle.tree.specs.Writing.{Wrote}
 use Rattle.tree.proofs.TreeLaws.{postfix-length, size-positive}
 use Rattle.tree.proofs.WritingLaws.{wrote-as}
-use Rattle.builder.specs.Building.{postfixOptional, sizeOptional, join, single, expand, mostExpanded, between, Segment, Emitted}
+use Rattle.table.specs.Table.{mostGroups, rowCount, rowsOf}
+use Rattle.builder.specs.Building.{postfixOptional, sizeOptional, join, single, expand, between, Segment, Emitted}
+use Rattle.builder.proofs.BuildingLaws.{single-leaf}
+use Rattle.builder.proofs.EmitLaws.{optional-length, wrote-join}
 use Rattle.gather.specs.Joining.{varies, constantTree, constantHolder}
-use Rattle.gather.specs.Choosing.{agrees, firstFailing, failing, settled, chosenAt, choice}
-use Rattle.table.specs.Table.{rowsOf}
+use Rattle.gather.specs.Choosing.{firstFailing, failing, settled, choice}
 use Rattle.gather.specs.Inner.{Scanned, Room, Some, Joined}
 use Rattle.gather.specs.declared.Choice.{Choice}
-use Rattle.gather.specs.declared.Choice.the-variants.{Never, Constant, Columns}
-use Rattle.builder.proofs.BuildingLaws.{single-leaf, group-holds}
-use Rattle.builder.proofs.EmitLaws.{optional-length, wrote-join}
+use Rattle.gather.specs.declared.Choice.the-variants.{Constant}
 use Rattle.gather.proofs.ChoosingLaws.{row-column}
 use Rattle.gather.proofs.JoiningLaws.{first-mark}
 
@@ -34,13 +34,8 @@ column-end w n i total pos e h =
     let l = mul-le-mul-left w k in
     omega (arith, mod-add-div i w, mul-suc w (i / w))
 
-pub row-inside : (w n i total start low : ℕ) → Scanned w total low low start → i < total → (i - i % w + low < 256) × (start + i % w < 256)
-row-inside w n i total start low s h =
-    let e = column-end w (s .whole .0) i total (s .positive) (s .whole .1) h in
-    (omega (arith, s .low-below, s .most), omega (arith, mod-lt i (s .positive), s .inside, s .most))
-
 pub agrees-inside : (w total low high start i : ℕ) → Scanned w total low high start → i < total
-    → (0 < w) × (i < 256) × (i - i % w + low < 256) × (i - i % w + high < 256) × (start + i % w < 256)
+    → (0 < w) × (i < rowCount) × (i - i % w + low < rowCount) × (i - i % w + high < rowCount) × (start + i % w < rowCount)
 agrees-inside w total low high start i s h =
     let e = column-end w (s .whole .0) i total (s .positive) (s .whole .1) h in
     let m = mod-lt i (s .positive) in
@@ -99,8 +94,8 @@ module _ (Ta : ℕ → Bool) (w total i : ℕ) (e : i ≡ failing Ta w total 0 0
 pub power-turn : (s i : ℕ) → s ≡ 2 ^ i → s + s ≡ 2 ^ (i + 1)
 power-turn s i e = ap₂ _+_ e e ∙ sym (ap (λ (k : ℕ). 2 ^ k) (add-one i) ∙ two-pow-succ i)
 
-pub power-small : (s i k : ℕ) → s ≡ 2 ^ i → i ≤ k → k ≤ 8 → s ≤ 256
-power-small s i k e h l = let a : i ≤ 8 = omega arith in let z : 2 ^ i ≤ 2 ^ 8 = pow-mono a in omega arith
+pub power-small : (s i k : ℕ) → s ≡ 2 ^ i → i ≤ k → k ≤ mostGroups → s ≤ rowCount
+power-small s i k e h l = let a : i ≤ mostGroups = omega arith in let z : 2 ^ i ≤ 2 ^ mostGroups = pow-mono a in omega arith
 
 -- ---- the rows of the columns that vary
 pub varies-more : (t : List Bool) (w low i : ℕ) → length t ≤ i → false ≡ varies (rowsOf t) w low i
@@ -111,13 +106,13 @@ pub varies-here : (t : List Bool) (w low i : ℕ) → (rowsOf t i && not (rowsOf
 unfolding varies
 varies-here t w low i = refl
 
-pub varies-all : (t d : List Bool) (w low n : ℕ) → 256 ≤ n → length d ≡ 256 → length t ≤ 256 → ((k : ℕ) → k < n → getD d k false ≡ varies (rowsOf t) w low k)
+pub varies-all : (t d : List Bool) (w low n : ℕ) → rowCount ≤ n → length d ≡ rowCount → length t ≤ rowCount → ((k : ℕ) → k < n → getD d k false ≡ varies (rowsOf t) w low k)
     → (i : ℕ) → rowsOf d i ≡ varies (rowsOf t) w low i
-varies-all t d w low n h p q f i = go (ltb i 256) refl
+varies-all t d w low n h p q f i = go (ltb i rowCount) refl
   where
-    go : (b : Bool) → ltb i 256 ≡ b → getD d i false ≡ varies (rowsOf t) w low i
-    go true e = f i (omega (arith, ltb-true i 256 e))
-    go false e = List·getD-eq-default d false (omega (arith, ltb-false i 256 e)) ∙ varies-more t w low i (omega (arith, ltb-false i 256 e))
+    go : (b : Bool) → ltb i rowCount ≡ b → getD d i false ≡ varies (rowsOf t) w low i
+    go true e = f i (omega (arith, ltb-true i rowCount e))
+    go false e = List·getD-eq-default d false (omega (arith, ltb-false i rowCount e)) ∙ varies-more t w low i (omega (arith, ltb-false i rowCount e))
 
 -- ---- what the builders ask and write
 module _ {ms us : List ℕ} {w columns low high start room : ℕ} (r : Room ms us w columns low high start room) where

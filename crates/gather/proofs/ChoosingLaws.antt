@@ -1,10 +1,10 @@
 -- What a choice means. If every row agrees with A ∪ (B ∩ h), the tree built is equivalent and gathered; if a row does not, its
 -- column and the chosen one are different and neither is constant, which gives the five fillings.
-use mathlib.Core.Path.{_≡_, refl, sym, ap, ap₂, subst, _∙_}
-use mathlib.Core.Bool.{Bool, true, false, not, cond, Bool·beq, _&&_, _||_, true≢false, false≢true}
+use mathlib.Core.Path.{_≡_, refl, sym, ap, subst, _∙_}
+use mathlib.Core.Bool.{Bool, true, false, not, cond, Bool·beq, _&&_, _||_, true≢false}
 use mathlib.Core.Logic.{_⊎_, inl, inr, ⊎-elim}
-use mathlib.Core.List.{List, [], _∷_, _++_}
-use mathlib.Core.Option.{Option, some, none}
+use mathlib.Core.List.{List, _++_}
+use mathlib.Core.Option.{Option, some}
 use Prim.Native.Nat.{ℕ, zero, suc, _+_, _-_, _*_, _/_, _%_, _^_, _<_, _≤_}
 use native.Mathlib.Nat.{mul-suc, mul-zero, mul-comm, mul-le-mul-left, mod-eq-of-lt, mod-lt, mod-le, mod-add-div, add-mul-mod-self-left, div-lt-iff-lt-mul, eq-or-lt-of-le}
 use native.Mathlib.Omega.{arith}
@@ -13,19 +13,19 @@ use lib.Dec.{ltb}
 use borrow.Author.Tests.{ltb-true, ltb-false}
 use lib.ListN.{length, getD}
 use Rattle.tree.specs.Tree.{Operator, union, difference, Tree, size, selects, Over, Equivalent, isIn}
-use Rattle.tree.proofs.TreeLaws.{or-right, is-in-append, selects-equivalent}
-use Rattle.gather.specs.Gathering.{Gathered}
-use Rattle.gather.specs.Columns.{mixed, column, FiveFillings}
+use Rattle.tree.proofs.TreeLaws.{in-left, in-right, selects-equivalent}
 use Rattle.table.specs.Table.{filling, rowOf, Tabled}
+use Rattle.table.proofs.TableLaws.{row-below, row-append, row-agree, row-filling, selects-row, value-zero}
 use Rattle.builder.specs.Building.{selectsOptional, sizeOptional, OverOptional, join, single, expand, mostExpanded}
-use Rattle.gather.specs.Joining.{varies, columnsTree, columnsHolder, constantTree, treeFor, holderFor}
+use Rattle.builder.proofs.BuildingLaws.{join-over, join-size, single-over, single-size, beq-true, expand-over, expand-size}
+use Rattle.gather.specs.Gathering.{Gathered}
+use Rattle.gather.specs.Columns.{mixed, FiveFillings}
+use Rattle.gather.specs.Joining.{varies, columnsTree, constantTree, treeFor, holderFor}
 use Rattle.gather.specs.Choosing.{agrees, firstFailing, failing, settled, chosenAt, choice}
 use Rattle.gather.specs.Inner.{Parts, ReadyFor}
 use Rattle.gather.specs.declared.Choice.{Choice}
 use Rattle.gather.specs.declared.Choice.the-variants.{Never, Constant, Columns}
-use Rattle.table.proofs.TableLaws.{row-below, row-append, row-agree, row-filling, selects-row, value-zero}
-use Rattle.builder.proofs.BuildingLaws.{join-over, join-size, single-over, single-size, beq-true, expand-over, expand-size}
-use Rattle.gather.proofs.JoiningLaws.{GatheredOptional, columns-selects, constant-selects, columns-gathered, columns-ready, constant-gathered, first-mark}
+use Rattle.gather.proofs.JoiningLaws.{columns-selects, constant-selects, columns-gathered, columns-ready, constant-gathered, first-mark}
 
 -- ---- the first number that fails a test
 pub record Fails (f : ℕ → Bool) (k i j : ℕ) : Type 0 where
@@ -84,12 +84,6 @@ abbrev pub Verdict : (ℕ → Bool) → (ℕ → Bool) → List ℕ → List ℕ
 Verdict m Ta ms us t Never = FiveFillings m t
 Verdict m Ta ms us t Constant = Result m Ta ms us t Constant
 Verdict m Ta ms us t (Columns low high start) = Result m Ta ms us t (Columns low high start)
-
-in-left : (ms us : List ℕ) (g : ℕ) → isIn ms g ≡ true → isIn (ms ++ us) g ≡ true
-in-left ms us g e = is-in-append ms us g ∙ ap (λ (b : Bool). b || isIn us g) e
-
-in-right : (ms us : List ℕ) (g : ℕ) → isIn us g ≡ true → isIn (ms ++ us) g ≡ true
-in-right ms us g e = is-in-append ms us g ∙ or-right (isIn ms g) (isIn us g) e
 
 or-left-false : (a b : Bool) → a || b ≡ false → a ≡ false
 or-left-false true b e = e

@@ -2,7 +2,6 @@
 pub mod GatheringLaws
 pub mod JoiningLaws
 pub mod ChoosingLaws
-pub mod GroupsLaws
 pub mod HoldingLaws
 mod LoopLaws
 mod BuildLaws

@@ -1,24 +1,24 @@
 -- One turn of each loop over a list of groups or marks.
-use mathlib.Core.Path.{_≡_, refl, sym, ap, subst, _∙_}
+use mathlib.Core.Path.{_≡_, refl, sym, ap, _∙_}
 use mathlib.Core.Bool.{Bool, true, false, not, cond, _||_}
-use mathlib.Core.List.{List, [], _∷_, _++_, append-assoc, append-nil}
+use mathlib.Core.List.{List, [], _∷_, _++_, append-nil}
 use mathlib.Core.Option.{Option}
-use Prim.Native.Nat.{ℕ, zero, suc, _+_, _-_, _≤_, _<_}
+use Prim.Native.Nat.{ℕ, _+_, _-_, _≤_, _<_}
 use native.Mathlib.Omega.{arith}
 use native.Mathlib.Numerals.{add-one}
 use lib.Dec.{T, eqb, ltb}
 use borrow.Author.Tests.{eq-eqb, ne-eqb, lt-ltb, le-ltb}
 use lib.ListN.{length, getD, set, take, drop, length-append, length-drop, drop-of-length-le}
 use lib.Seq.{take-all, take-suc-set, length-take-le}
-use Rattle.tree.specs.Tree.{Operator, union, difference, sign, Tree, leaf, node, isGroup, postfix, leaves, mostNodes, isIn, withNew, collect}
+use Rattle.tree.specs.Tree.{Operator, union, difference, sign, Tree, leaf, node, postfix, leaves, mostNodes, isIn, withNew, collect}
 use Rattle.tree.proofs.TreeLaws.{group-most}
 use Rattle.tree.specs.Parse.{treeOf, isSome}
+use Rattle.tree.proofs.GroupLaws.{collect-longer}
 use Rattle.tree.proofs.PassLaws.{here}
 use Rattle.tree.proofs.ParseLaws.{the-tree, no-tree-of}
 use Rattle.table.specs.Table.{mostGroups}
 use Rattle.gather.specs.Inner.{leavesIn, Collected}
 use Rattle.gather.specs.Answer.{badMark, groupsFault, treeFault, fault}
-use Rattle.gather.proofs.GroupsLaws.{collect-longer}
 
 -- ---- the search in a list
 module _ (gs : List ℕ) (i x : ℕ) where

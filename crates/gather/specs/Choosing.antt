@@ -1,7 +1,7 @@
 -- How the columns are chosen from a table, or refused, by two scans. proofs/Theorem.antt says what a choice means.
-use mathlib.Core.Bool.{Bool, true, false, not, cond, Bool·beq, _&&_, _||_}
-use Prim.Native.Nat.{ℕ, zero, suc, _+_, _-_, _*_, _%_}
-use lib.Dec.{eqb, ltb}
+use mathlib.Core.Bool.{Bool, cond, Bool·beq, _&&_, _||_}
+use Prim.Native.Nat.{ℕ, zero, suc, _+_, _-_, _%_}
+use lib.Dec.{ltb}
 use Rattle.gather.specs.declared.Choice.{Choice}
 use Rattle.gather.specs.declared.Choice.the-variants.{Never, Constant, Columns}
 

@@ -1,17 +1,18 @@
 -- Fillings and rows are inverse to each other, so a tree over the groups is known by its table:
 -- two trees over these groups are equivalent exactly when their tables agree.
 use mathlib.Core.Path.{_≡_, refl, sym, ap, ap₂, fun-ext, _∙_}
-use mathlib.Core.Bool.{Bool, true, false, not, cond, _||_, true≢false, false≢true}
+use mathlib.Core.Bool.{Bool, true, false, cond, _||_, true≢false, false≢true}
 use mathlib.Core.List.{List, [], _∷_, _++_}
 use Prim.Native.Nat.{ℕ, zero, suc, _+_, _-_, _*_, _/_, _%_, _^_, _<_, _≤_}
-use native.Mathlib.Nat.{mul-add, mul-assoc, mul-comm, pow-suc}
+use native.Mathlib.Nat.{mul-assoc, mul-comm, pow-suc}
 use native.Mathlib.Omega.{arith}
-use lib.Pow.{pow-mono, pow-pos}
+use lib.Pow.{pow-mono}
 use lib.Dec.{eqb}
 use borrow.Author.Tests.{eqb-true, eqb-false, eq-eqb, ne-eqb}
 use lib.ListN.{length, getD, drop, drop-of-length-le}
 use Rattle.tree.specs.Tree.{Tree, selects, Over, Equivalent, isIn, Distinct}
-use Rattle.tree.proofs.TreeLaws.{or-right, selects-agree, selects-nothing, equivalent-selects, selects-equivalent}
+use Rattle.tree.proofs.TreeLaws.{selects-agree, selects-nothing, equivalent-selects, selects-equivalent}
+use Rattle.tree.proofs.GroupLaws.{is-in-here, in-later}
 use Rattle.tree.proofs.PassLaws.{here}
 use Rattle.table.specs.Table.{rowCount, mostGroups, filling, rowOf, valueAt, tabulate, table, Tabled}
 
@@ -25,20 +26,11 @@ row-below v (x ∷ gs) = go (v x) (row-below v gs)
     go true h = omega (arith, pow-suc 2 (length gs))
     go false h = omega (arith, pow-suc 2 (length gs))
 
--- a number is in a list that begins with it, and in one whose rest has it
-pub in-first : (x : ℕ) (gs : List ℕ) → isIn (x ∷ gs) x ≡ true
-unfolding isIn
-in-first x gs = ap (λ (b : Bool). b || isIn gs x) (eq-eqb x x refl)
-
-pub in-rest : (x g : ℕ) (gs : List ℕ) → isIn gs g ≡ true → isIn (x ∷ gs) g ≡ true
-unfolding isIn
-in-rest x g gs e = or-right (eqb g x) (isIn gs g) e
-
 pub row-agree : (v w : ℕ → Bool) (gs : List ℕ) → ((g : ℕ) → isIn gs g ≡ true → v g ≡ w g) → rowOf v gs ≡ rowOf w gs
 unfolding rowOf
 row-agree v w [] h = refl
 row-agree v w (x ∷ gs) h =
-    ap₂ (λ (b : Bool) (r : ℕ). cond b 1 0 + 2 * r) (h x (in-first x gs)) (row-agree v w gs (λ g e. h g (in-rest x g gs e)))
+    ap₂ (λ (b : Bool) (r : ℕ). cond b 1 0 + 2 * r) (h x (is-in-here x gs)) (row-agree v w gs (λ g e. h g (in-later x gs g e)))
 
 pub row-append : (v : ℕ → Bool) (ms us : List ℕ) → rowOf v (ms ++ us) ≡ rowOf v ms + 2 ^ length ms * rowOf v us
 unfolding rowOf

@@ -1,4 +1,3 @@
-use mathlib.Core.Path.{_≡_, refl, sym, _∙_}
 use borrow.Author.Needs.{needs}
 use Rattle.builder.proofs.plan.Statement.{statement}
 use Rattle.builder.proofs.plan.Tie as tie

@@ -1,7 +1,5 @@
 use Rattle.gather.specs.Inner.{BuiltFor, ReadyFor}
-use mathlib.Core.Path.{_≡_, sym, subst}
-use Prim.Native.Nat.{ℕ}
-use native.Mathlib.Omega.{arith}
+use mathlib.Core.Path.{subst}
 use Rattle.table.specs.Table.{rowsOf}
 use Rattle.gather.proofs.WholeLaws.{room-for, not-constant, not-columns}
 use borrow.Author.Needs.{needs}

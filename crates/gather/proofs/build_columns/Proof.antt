@@ -1,4 +1,3 @@
-use mathlib.Core.Path.{sym}
 use native.Mathlib.Omega.{arith}
 use Rattle.gather.proofs.WholeLaws.{joined-removed, joined-kept, joined-nested, room-zero, some-as}
 use borrow.Author.Needs.{needs}

@@ -1,4 +1,3 @@
-use mathlib.Core.Path.{_≡_, sym, ap, _∙_}
 use native.Mathlib.Omega.{arith}
 use Rattle.tree.specs.Tree.{difference, sign}
 use Rattle.builder.proofs.EmitLaws.{between-short}

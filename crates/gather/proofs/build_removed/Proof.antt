@@ -1,8 +1,7 @@
-use mathlib.Core.Path.{_≡_, sym, ap, _∙_}
 use native.Mathlib.Omega.{arith}
 use Rattle.tree.specs.Tree.{difference, sign}
 use Rattle.builder.proofs.EmitLaws.{between-short}
-use Rattle.gather.proofs.BuildLaws.{others-segment, marks-segment, past, wrote-three, wrote-union, second-ends, third-ends}
+use Rattle.gather.proofs.BuildLaws.{others-segment, marks-segment, past, wrote-union, third-ends}
 use borrow.Author.Needs.{needs}
 use Rattle.gather.proofs.build_removed.Statement.{statement}
 use Rattle.gather.proofs.build_removed.Tie as tie

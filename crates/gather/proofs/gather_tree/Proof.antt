@@ -1,5 +1,5 @@
 use Rattle.gather.specs.Answer.{GathersTree}
-use mathlib.Core.Path.{_≡_, sym, _∙_}
+use mathlib.Core.Path.{sym, _∙_}
 use mathlib.Core.Logic.{inl, inr}
 use native.Mathlib.Omega.{arith}
 use Rattle.gather.proofs.HoldingLaws.{status-gathered, status-not}

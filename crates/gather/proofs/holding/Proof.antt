@@ -1,8 +1,8 @@
-use mathlib.Core.Path.{_≡_, refl, sym, ap, _∙_}
-use Prim.Native.Nat.{ℕ, _≤_, _-_}
+use mathlib.Core.Path.{_≡_, refl}
+use Prim.Native.Nat.{_≤_, _-_}
 use native.Mathlib.Omega.{arith}
-use lib.ListN.{length, drop, getD, length-set}
-use Rattle.tree.specs.Tree.{Operator, Tree, postfix, isIn}
+use lib.ListN.{length, length-set}
+use Rattle.tree.specs.Tree.{Tree, postfix, isIn}
 use Rattle.tree.proofs.PassLaws.{Passing, passing-start}
 use Rattle.gather.specs.Holding.{leafStatus, nodeStatus}
 use Rattle.gather.specs.declared.Status.the-variants.{Free}

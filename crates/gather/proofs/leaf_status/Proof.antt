@@ -1,4 +1,3 @@
-use mathlib.Core.Path.{sym, _∙_}
 use borrow.Author.Needs.{needs}
 use Rattle.gather.proofs.leaf_status.Statement.{statement}
 use Rattle.gather.proofs.leaf_status.Tie as tie

@@ -1,12 +1,11 @@
-use Rattle.gather.proofs.BuildLaws.{varies-all, column-end, varies-more, varies-here}
-use mathlib.Core.Path.{_≡_, refl, sym, ap, _∙_}
-use mathlib.Core.Bool.{Bool, true, false}
+use Rattle.gather.proofs.BuildLaws.{varies-all, column-end, varies-here}
+use mathlib.Core.Path.{_≡_, refl, _∙_}
+use mathlib.Core.Bool.{false}
 use borrow.Author.Count.{below-more}
-use borrow.Author.Needs.{needs}
 use Prim.Native.Nat.{ℕ, _≤_, _<_, _-_}
 use native.Mathlib.Nat.{mod-le}
 use native.Mathlib.Omega.{arith}
-use lib.ListN.{length, getD, length-set, List·getD-eq-default}
+use lib.ListN.{length, getD, length-set}
 use lib.Seq.{getD-set-same, getD-set-other}
 use Rattle.gather.specs.Joining.{varies}
 use Rattle.table.specs.Table.{rowsOf}

@@ -1,9 +1,9 @@
-use mathlib.Core.Path.{_≡_, refl, sym, ap, _∙_}
+use mathlib.Core.Path.{_≡_, refl, ap, _∙_}
 use mathlib.Core.Bool.{false}
-use Prim.Native.Nat.{ℕ, _≤_, _-_}
+use Prim.Native.Nat.{_≤_, _-_}
 use native.Mathlib.Omega.{arith}
-use lib.ListN.{length, drop, getD, length-set}
-use Rattle.tree.specs.Tree.{Operator, Tree, postfix, sign, apply}
+use lib.ListN.{length, getD, length-set}
+use Rattle.tree.specs.Tree.{Operator, Tree, postfix, apply}
 use Rattle.tree.proofs.PassLaws.{Passing, passing-start}
 use Rattle.table.specs.Table.{filling}
 use Rattle.table.proofs.EntryLaws.{leafValue, nodeValue, fold-selects, operator-of, turn-group, turn-operator, turn-two, turn-end}
