@@ -4,6 +4,5 @@ pub mod JoiningLaws
 pub mod ChoosingLaws
 pub mod HoldingLaws
 mod LoopLaws
-mod BuildLaws
 mod WholeLaws
 pub mod Theorem

@@ -12,12 +12,12 @@ use Rattle.tree.proofs.TreeLaws.{or-right, or-cases, in-left, in-right, over-le
 use Rattle.tree.proofs.GroupLaws.{in-collect, distinct-collect, collect-longer, leaves-groups}
 use Rattle.table.specs.Table.{valueAt}
 use Rattle.builder.proofs.BuildingLaws.{both}
+use Rattle.columns.specs.Choosing.{choice}
+use Rattle.columns.specs.declared.Choice.{Choice}
+use Rattle.columns.specs.declared.Choice.the-variants.{Never, Constant, Columns}
 use Rattle.gather.specs.Gathering.{CannotBeGathered}
 use Rattle.gather.specs.Columns.{FiveFillings, Criterion}
-use Rattle.gather.specs.Choosing.{choice}
 use Rattle.gather.specs.Inner.{Parts}
-use Rattle.gather.specs.declared.Choice.{Choice}
-use Rattle.gather.specs.declared.Choice.the-variants.{Never, Constant, Columns}
 use Rattle.gather.proofs.GatheringLaws.{unmarked, fillings-cannot, fillings-columns, columns-fillings}
 use Rattle.gather.proofs.ChoosingLaws.{Verdict, verdict}
 

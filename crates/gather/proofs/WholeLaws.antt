@@ -1,5 +1,5 @@
 -- The whole: what has no fault, the groups with the marks first, and what a choice and its tree say of the given tree.
-use mathlib.Core.Path.{_≡_, refl, sym, ap, ap₂, subst, fun-ext, _∙_}
+use mathlib.Core.Path.{_≡_, refl, sym, ap, ap₂, subst, _∙_}
 use mathlib.Core.Bool.{Bool, true, false, not, cond, _||_, true≢false, false≢true}
 use mathlib.Core.Logic.{inl, inr}
 use mathlib.Core.List.{List, [], _∷_, _++_}
@@ -21,76 +21,22 @@ use Rattle.tree.proofs.ParseLaws.{IsTree, tree-of-sound, postfix-injective}
 use Rattle.tree.proofs.WritingLaws.{wrote-over}
 use Rattle.table.specs.Table.{mostGroups, rowCount, table, rowsOf, Tabled, Listed}
 use Rattle.table.proofs.TableLaws.{table-at, rows-most}
-use Rattle.builder.specs.Building.{postfixOptional, expand, mostExpanded}
+use Rattle.builder.specs.Building.{postfixOptional, mostExpanded}
+use Rattle.columns.specs.Joining.{treeFor, holderFor}
+use Rattle.columns.specs.Choosing.{choice}
+use Rattle.columns.specs.Inner.{Scanned, Room, ReadyFor, Joined}
+use Rattle.columns.specs.declared.Choice.{Choice}
+use Rattle.columns.specs.declared.Choice.the-variants.{Never, Constant, Columns}
 use Rattle.gather.specs.Gathering.{Gathered}
-use Rattle.gather.specs.Joining.{varies, removedTree, removedHolder, keptTree, keptHolder, nestedTree, nestedHolder, columnsTree, columnsHolder, treeFor, holderFor}
-use Rattle.gather.specs.Choosing.{choice}
-use Rattle.gather.specs.Inner.{Parts, leavesIn, Collected, Scanned, Room, Some, Ready, ReadyFor, Joined, BuiltFor, Ordered}
+use Rattle.gather.specs.Inner.{Parts, leavesIn, Collected, BuiltFor, Ordered}
 use Rattle.gather.specs.Answer.{badMark, groupsFault, treeFault, fault, GatheredTo, GathersTree}
-use Rattle.gather.specs.declared.Choice.{Choice}
 use Rattle.gather.specs.declared.Status.the-variants.{Free, Mixed}
-use Rattle.gather.specs.declared.Choice.the-variants.{Never, Constant, Columns}
 use Rattle.gather.specs.declared.Gathering.{Gathering}
 use Rattle.gather.specs.declared.Gathering.the-variants.{Done, Refused}
 use Rattle.gather.proofs.GatheringLaws.{fillings-cannot}
 use Rattle.gather.proofs.ChoosingLaws.{Result, Verdict, verdict}
 use Rattle.gather.proofs.HoldingLaws.{Names}
 use Rattle.gather.proofs.LoopLaws.{leaves-postfix}
-
--- ---- the three forms of the columns' tree
-module _ (Ta : ℕ → Bool) {ms us : List ℕ} {w columns low high start room : ℕ} (r : Room ms us w columns low high start room) {out out′ : List ℕ} {n h : ℕ} where
-  pub joined-removed : Ta start ≡ true → Joined (removedTree Ta ms us w low high start) (removedHolder Ta ms us w low high start) out out′ n h
-      → Joined (columnsTree Ta ms us low high start) (columnsHolder Ta ms us low high start) out out′ n h
-  joined-removed e j =
-      rw e (subst (λ (x : ℕ). Joined (removedTree Ta ms us x low high start) (removedHolder Ta ms us x low high start) out out′ n h) (r .width) j)
-
-  pub joined-kept : Ta start ≡ false → Ta high ≡ true → Joined (keptTree Ta ms us w low high start) (keptHolder Ta ms us w low high start) out out′ n h
-      → Joined (columnsTree Ta ms us low high start) (columnsHolder Ta ms us low high start) out out′ n h
-  joined-kept e f j =
-      rw (e, f) (subst (λ (x : ℕ). Joined (keptTree Ta ms us x low high start) (keptHolder Ta ms us x low high start) out out′ n h) (r .width) j)
-
-  pub joined-nested : (d : ℕ → Bool) → ((i : ℕ) → d i ≡ varies Ta w low i) → Ta start ≡ false → Ta high ≡ false
-      → Joined (nestedTree Ta ms us d w high start) (nestedHolder Ta ms us d w high start) out out′ n h
-      → Joined (columnsTree Ta ms us low high start) (columnsHolder Ta ms us low high start) out out′ n h
-  joined-nested d v e f j =
-      let q : d ≡ varies Ta w low = fun-ext v in
-      let k : Joined (nestedTree Ta ms us (varies Ta w low) w high start) (nestedHolder Ta ms us (varies Ta w low) w high start) out out′ n h
-      = subst (λ (x : ℕ → Bool). Joined (nestedTree Ta ms us x w high start) (nestedHolder Ta ms us x w high start) out out′ n h) q j in
-      rw (e, f) (subst (λ (x : ℕ). Joined (nestedTree Ta ms us (varies Ta x low) x high start) (nestedHolder Ta ms us (varies Ta x low) x high start) out out′ n h) (r .width) k)
-
--- the same room for the row 0
-pub room-zero : {ms us : List ℕ} {w columns low high start room : ℕ} → Room ms us w columns low high start room → Room ms us w columns 0 high start room
-room-zero r = record {
-  width = r .width;
-  count = r .count;
-  most = r .most;
-  divides = r .divides;
-  low-below = omega (arith, r .low-below);
-  high-below = r .high-below;
-  inside = r .inside;
-  mark-groups = r .mark-groups;
-  other-groups = r .other-groups;
-  some-mark = r .some-mark;
-  space = r .space;
-}
-
-pub some-as : (Ta d : ℕ → Bool) (w low high : ℕ) (us : List ℕ) → ((i : ℕ) → d i ≡ varies Ta w low i) → Some (expand (varies Ta w low) high w us) → Some (expand d high w us)
-some-as Ta d w low high us v s = subst (λ (x : ℕ → Bool). Some (expand x high w us)) (sym (fun-ext v)) s
-
-pub room-for : {Ta : ℕ → Bool} {ms us : List ℕ} {w columns low high start room : ℕ} → Room ms us w columns 0 0 0 room → Ready Ta ms us w low high start → Room ms us w columns low high start room
-room-for {Ta} {ms} {us} {w} {columns} r s = record {
-  width = r .width;
-  count = r .count;
-  most = r .most;
-  divides = r .divides;
-  low-below = s .low-below;
-  high-below = s .high-below;
-  inside = let e : w * columns ≡ w * 2 ^ length us = ap (λ (x : ℕ). w * x) (r .count) in omega (arith, s .inside, r .most);
-  mark-groups = r .mark-groups;
-  other-groups = r .other-groups;
-  some-mark = r .some-mark;
-  space = r .space;
-}
 
 -- ---- sizes
 most-power : (k : ℕ) → mostExpanded k + 5 ≡ 5 * 2 ^ k

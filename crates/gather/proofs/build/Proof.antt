@@ -1,14 +1,16 @@
-use Rattle.gather.specs.Inner.{BuiltFor, ReadyFor}
+use Rattle.columns.specs.Inner.{ReadyFor}
+use Rattle.gather.specs.Inner.{BuiltFor}
 use mathlib.Core.Path.{subst}
 use Rattle.table.specs.Table.{rowsOf}
-use Rattle.gather.proofs.WholeLaws.{room-for, not-constant, not-columns}
+use Rattle.columns.proofs.BuildLaws.{room-for}
+use Rattle.gather.proofs.WholeLaws.{not-constant, not-columns}
 use borrow.Author.Needs.{needs}
 use Rattle.gather.proofs.build.Statement.{statement}
 use Rattle.gather.proofs.build.Tie as tie
 use Rattle.gather.proofs.build.Reads as reads
 use Rattle.gather.proofs.build.Lts as lts
-use Rattle.gather.proofs.build_columns.Reads as build-columns-reads
-use Rattle.gather.proofs.build_constant.Reads as build-constant-reads
+use Rattle.columns.proofs.build_columns.Reads as build-columns-reads
+use Rattle.columns.proofs.build_constant.Reads as build-constant-reads
 
 enum-told : tie.Need-enum-told
 enum-told c = search needs

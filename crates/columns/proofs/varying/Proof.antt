@@ -1,4 +1,4 @@
-use Rattle.gather.proofs.BuildLaws.{varies-all, column-end, varies-here}
+use Rattle.columns.proofs.BuildLaws.{varies-all, column-end, varies-here}
 use mathlib.Core.Path.{_≡_, refl, _∙_}
 use mathlib.Core.Bool.{false}
 use borrow.Author.Count.{below-more}
@@ -7,12 +7,12 @@ use native.Mathlib.Nat.{mod-le}
 use native.Mathlib.Omega.{arith}
 use lib.ListN.{length, getD, length-set}
 use lib.Seq.{getD-set-same, getD-set-other}
-use Rattle.gather.specs.Joining.{varies}
+use Rattle.columns.specs.Joining.{varies}
 use Rattle.table.specs.Table.{rowsOf}
-use Rattle.gather.proofs.varying.Statement.{statement}
-use Rattle.gather.proofs.varying.Tie as tie
-use Rattle.gather.proofs.varying.Reads as reads
-use Rattle.gather.proofs.varying.Lts as lts
+use Rattle.columns.proofs.varying.Statement.{statement}
+use Rattle.columns.proofs.varying.Tie as tie
+use Rattle.columns.proofs.varying.Reads as reads
+use Rattle.columns.proofs.varying.Lts as lts
 
 abbrev Inv-loop : tie.InvT-loop
 Inv-loop t w low d₀ i₀ d i = (i ≤ 256) × (length d ≡ 256) × ((k : ℕ) → k < i → getD d k false ≡ varies (rowsOf t) w low k)

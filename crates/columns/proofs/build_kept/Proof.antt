@@ -1,12 +1,12 @@
 use native.Mathlib.Omega.{arith}
 use Rattle.tree.specs.Tree.{difference, sign}
 use Rattle.builder.proofs.EmitLaws.{between-short}
-use Rattle.gather.proofs.BuildLaws.{others-segment, marks-segment, past, wrote-union, second-ends}
+use Rattle.columns.proofs.BuildLaws.{others-segment, marks-segment, past, wrote-union, second-ends}
 use borrow.Author.Needs.{needs}
-use Rattle.gather.proofs.build_kept.Statement.{statement}
-use Rattle.gather.proofs.build_kept.Tie as tie
-use Rattle.gather.proofs.build_kept.Reads as reads
-use Rattle.gather.proofs.build_kept.Lts as lts
+use Rattle.columns.proofs.build_kept.Statement.{statement}
+use Rattle.columns.proofs.build_kept.Tie as tie
+use Rattle.columns.proofs.build_kept.Reads as reads
+use Rattle.columns.proofs.build_kept.Lts as lts
 use Rattle.builder.proofs.emit.Reads as emit-reads
 use Rattle.builder.proofs.operate.Reads as operate-reads
 

@@ -1,7 +1,7 @@
 -- The gathered tree, by the rows `low` and `high` of each column and the column that starts at `start`.
 -- With A the columns' values at `low`, B those at `high`, D = B − A and h the column, the tree is A ∪ (B ∩ h).
 -- A tree for B or h is one for its complement where B is true at the first column, or h at its first row.
--- No caller has to believe any of this: that it is gathered and what it selects is proved in proofs/JoiningLaws.antt.
+-- No caller has to believe any of this: that it is gathered and what it selects is proved in `gather` proofs/JoiningLaws.antt.
 use mathlib.Core.Bool.{Bool, not, cond, _&&_}
 use mathlib.Core.List.{List}
 use mathlib.Core.Option.{Option, none}
@@ -9,8 +9,8 @@ use Prim.Native.Nat.{ℕ, _+_, _-_, _%_, _^_}
 use lib.ListN.{length, getD}
 use Rattle.tree.specs.Tree.{union, difference, Tree}
 use Rattle.builder.specs.Building.{sizeOptional, join, single, expand}
-use Rattle.gather.specs.declared.Choice.{Choice}
-use Rattle.gather.specs.declared.Choice.the-variants.{Never, Constant, Columns}
+use Rattle.columns.specs.declared.Choice.{Choice}
+use Rattle.columns.specs.declared.Choice.the-variants.{Never, Constant, Columns}
 
 -- D as a table
 unfoldable pub varies : (ℕ → Bool) → ℕ → ℕ → ℕ → Bool

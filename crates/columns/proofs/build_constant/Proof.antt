@@ -1,10 +1,10 @@
 use native.Mathlib.Omega.{arith}
-use Rattle.gather.proofs.BuildLaws.{others-segment, wrote-constant}
+use Rattle.columns.proofs.BuildLaws.{others-segment, wrote-constant}
 use borrow.Author.Needs.{needs}
-use Rattle.gather.proofs.build_constant.Statement.{statement}
-use Rattle.gather.proofs.build_constant.Tie as tie
-use Rattle.gather.proofs.build_constant.Reads as reads
-use Rattle.gather.proofs.build_constant.Lts as lts
+use Rattle.columns.proofs.build_constant.Statement.{statement}
+use Rattle.columns.proofs.build_constant.Tie as tie
+use Rattle.columns.proofs.build_constant.Reads as reads
+use Rattle.columns.proofs.build_constant.Lts as lts
 use Rattle.builder.proofs.emit.Reads as emit-reads
 use Rattle.builder.proofs.operate.Reads as operate-reads
 use Rattle.builder.proofs.put3.Reads as put3-reads

@@ -1,12 +1,12 @@
 use native.Mathlib.Nat.{mod-le, mod-lt}
-use Rattle.gather.proofs.BuildLaws.{scanned-at, choice-constant, choice-true, choice-false}
+use Rattle.columns.proofs.BuildLaws.{scanned-at, choice-constant, choice-true, choice-false}
 use borrow.Author.Needs.{needs}
-use Rattle.gather.proofs.choose.Statement.{statement}
-use Rattle.gather.proofs.choose.Tie as tie
-use Rattle.gather.proofs.choose.Reads as reads
-use Rattle.gather.proofs.choose.Lts as lts
-use Rattle.gather.proofs.first_failing.Reads as first-failing-reads
-use Rattle.gather.proofs.settle.Reads as settle-reads
+use Rattle.columns.proofs.choose.Statement.{statement}
+use Rattle.columns.proofs.choose.Tie as tie
+use Rattle.columns.proofs.choose.Reads as reads
+use Rattle.columns.proofs.choose.Lts as lts
+use Rattle.columns.proofs.first_failing.Reads as first-failing-reads
+use Rattle.columns.proofs.settle.Reads as settle-reads
 
 first-failing-requires : tie.Need-first-failing-requires
 first-failing-requires c κs = search needs

@@ -1,11 +1,11 @@
 use mathlib.Core.Path.{_≡_, refl, ap, _∙_}
 use Prim.Native.Nat.{_≤_, _-_, _^_}
 use native.Mathlib.Omega.{arith}
-use Rattle.gather.proofs.BuildLaws.{power-turn, power-small}
-use Rattle.gather.proofs.power.Statement.{statement}
-use Rattle.gather.proofs.power.Tie as tie
-use Rattle.gather.proofs.power.Reads as reads
-use Rattle.gather.proofs.power.Lts as lts
+use Rattle.columns.proofs.BuildLaws.{power-turn, power-small}
+use Rattle.columns.proofs.power.Statement.{statement}
+use Rattle.columns.proofs.power.Tie as tie
+use Rattle.columns.proofs.power.Reads as reads
+use Rattle.columns.proofs.power.Lts as lts
 
 abbrev Inv-loop : tie.InvT-loop
 Inv-loop k s₀ i₀ s i = (i ≤ k) × (s ≡ 2 ^ i)

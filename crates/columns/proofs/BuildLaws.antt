@@ -1,10 +1,11 @@
 -- The writers of the gathered tree: three trees and two operators each; and one turn of the scans over the table.
-use mathlib.Core.Path.{_≡_, refl, sym, ap, ap₂, subst, _∙_}
+use mathlib.Core.Path.{_≡_, refl, sym, ap, ap₂, subst, fun-ext, _∙_}
 use mathlib.Core.Bool.{Bool, true, false, not, cond, _&&_}
+use mathlib.Core.Logic.{⊎-elim}
 use mathlib.Core.List.{List, [], _∷_}
 use mathlib.Core.Option.{Option, none}
-use Prim.Native.Nat.{ℕ, suc, _+_, _-_, _*_, _/_, _%_, _^_, _<_, _≤_}
-use native.Mathlib.Nat.{mul-suc, mul-le-mul-left, mod-lt, mod-add-div, two-pow-succ, one-mul}
+use Prim.Native.Nat.{ℕ, zero, suc, _+_, _-_, _*_, _/_, _%_, _^_, _<_, _≤_}
+use native.Mathlib.Nat.{mul-suc, mul-comm, mul-le-mul-left, mod-lt, mod-add-div, div-lt-iff-lt-mul, eq-or-lt-of-le, two-pow-succ, one-mul}
 use native.Mathlib.Omega.{arith}
 use native.Mathlib.Numerals.{add-one}
 use lib.Pow.{pow-mono}
@@ -14,20 +15,22 @@ use lib.ListN.{length, getD, List·getD-eq-default}
 use Rattle.tree.specs.Tree.{Operator, union, difference, sign, Tree, isGroup, postfix, isIn}
 use Rattle.tree.specs.Writing.{Wrote}
 use Rattle.tree.proofs.TreeLaws.{postfix-length, size-positive}
+use Rattle.tree.proofs.GroupLaws.{is-in-here}
 use Rattle.tree.proofs.WritingLaws.{wrote-as}
 use Rattle.table.specs.Table.{mostGroups, rowCount, rowsOf}
 use Rattle.builder.specs.Building.{postfixOptional, sizeOptional, join, single, expand, between, Segment, Emitted}
 use Rattle.builder.proofs.BuildingLaws.{single-leaf}
 use Rattle.builder.proofs.EmitLaws.{optional-length, wrote-join}
-use Rattle.gather.specs.Joining.{varies, constantTree, constantHolder}
-use Rattle.gather.specs.Choosing.{firstFailing, failing, settled, choice}
-use Rattle.gather.specs.Inner.{Scanned, Room, Some, Joined}
-use Rattle.gather.specs.declared.Choice.{Choice}
-use Rattle.gather.specs.declared.Choice.the-variants.{Constant}
-use Rattle.gather.proofs.ChoosingLaws.{row-column}
-use Rattle.gather.proofs.JoiningLaws.{first-mark}
+use Rattle.columns.specs.Joining.{varies, removedTree, removedHolder, keptTree, keptHolder, nestedTree, nestedHolder, columnsTree, columnsHolder, constantTree, constantHolder}
+use Rattle.columns.specs.Choosing.{firstFailing, failing, settled, choice}
+use Rattle.columns.specs.Inner.{Scanned, Room, Some, Ready, Joined}
+use Rattle.columns.specs.declared.Choice.{Choice}
+use Rattle.columns.specs.declared.Choice.the-variants.{Constant}
 
 -- ---- rows of a column
+pub row-column : (w n i : ℕ) → 0 < w → i < w * n → i / w < n
+row-column w n i pos h = div-lt-iff-lt-mul {k = w} {x = i} {y = n} pos .1 (rw (mul-comm n w) h)
+
 pub column-end : (w n i total : ℕ) → 0 < w → total ≡ w * n → i < total → i - i % w + w ≤ total
 column-end w n i total pos e h =
     let k = row-column w n i pos (omega arith) in
@@ -51,6 +54,27 @@ scanned-at w total i low high s h l k = record {
   high-below = k;
   inside = column-end w (s .whole .0) i total (s .positive) (s .whole .1) h;
 }
+
+-- ---- the first number that fails a test
+pub record Fails (f : ℕ → Bool) (k i j : ℕ) : Type 0 where
+  pub from : i ≤ j
+  pub upto : j ≤ i + k
+  pub passed : (n : ℕ) → i ≤ n → n < j → f n ≡ true
+  pub fails : j < i + k → f j ≡ false
+
+pub first-fails : (f : ℕ → Bool) (k i : ℕ) → Fails f k i (firstFailing f k i)
+unfolding firstFailing
+first-fails f zero i = record { from = omega arith; upto = omega arith; passed = λ n a b. absurd (omega arith); fails = λ h. absurd (omega arith) }
+first-fails f (suc k) i = go (f i) refl (first-fails f k (suc i))
+  where
+    go : (b : Bool) → f i ≡ b → Fails f k (suc i) (firstFailing f k (suc i)) → Fails f (suc k) i (cond b (firstFailing f k (suc i)) i)
+    go true e h = record {
+      from = omega (arith, h .from);
+      upto = omega (arith, h .upto);
+      passed = λ n a b. ⊎-elim (λ q. subst (λ (x : ℕ). f x ≡ true) q e) (λ q. h .passed n q b) (eq-or-lt-of-le a);
+      fails = λ l. h .fails (omega arith);
+    }
+    go false e h = record { from = omega arith; upto = omega arith; passed = λ n a b. absurd (omega arith); fails = λ l. e }
 
 -- ---- one turn of the scan
 module _ (f : ℕ → Bool) (i total : ℕ) where
@@ -172,6 +196,10 @@ module _ {tA tB tC : List Bool} {iA iB iC kA kB kC : ℕ} {gA gB gC : List ℕ} 
   third-ends = omega (arith, f .wrote .ends, g .wrote .ends, h .wrote .ends, optional-length A, optional-length B, optional-length C)
 
 -- the constant columns' tree
+pub first-mark : (ms : List ℕ) → 0 < length ms → isIn ms (getD ms 0 0) ≡ true
+first-mark [] h = absurd (omega arith)
+first-mark (x ∷ ms) h = is-in-here x ms
+
 mark-twice : (ms : List ℕ) → 0 < length ms → ((g : ℕ) → isIn ms g ≡ true → isGroup g ≡ true)
     → postfixOptional (join difference (single (getD ms 0 0)) (single (getD ms 0 0))) ≡ getD ms 0 0 ∷ getD ms 0 0 ∷ sign difference ∷ []
 unfolding postfix
@@ -188,3 +216,58 @@ wrote-constant {t} {ms} {us} {w} r {out} {o₁} {o₂} {o₃} {a} {h} {e} f g k 
           (wrote-join union (expand (rowsOf t) 0 w us) (join difference (single x) (single x)) (λ q z. absurd (union-not q)) (f .wrote) (wrote-as g (sym (mark-twice ms (r .some-mark) (r .mark-groups)))) k);
       held = n ∙ ap (λ (i : ℕ). sizeOptional (expand (rowsOf t) 0 i us) + 2) (r .width);
     }
+
+-- ---- the three forms of the columns' tree
+module _ (Ta : ℕ → Bool) {ms us : List ℕ} {w columns low high start room : ℕ} (r : Room ms us w columns low high start room) {out out′ : List ℕ} {n h : ℕ} where
+  pub joined-removed : Ta start ≡ true → Joined (removedTree Ta ms us w low high start) (removedHolder Ta ms us w low high start) out out′ n h
+      → Joined (columnsTree Ta ms us low high start) (columnsHolder Ta ms us low high start) out out′ n h
+  joined-removed e j =
+      rw e (subst (λ (x : ℕ). Joined (removedTree Ta ms us x low high start) (removedHolder Ta ms us x low high start) out out′ n h) (r .width) j)
+
+  pub joined-kept : Ta start ≡ false → Ta high ≡ true → Joined (keptTree Ta ms us w low high start) (keptHolder Ta ms us w low high start) out out′ n h
+      → Joined (columnsTree Ta ms us low high start) (columnsHolder Ta ms us low high start) out out′ n h
+  joined-kept e f j =
+      rw (e, f) (subst (λ (x : ℕ). Joined (keptTree Ta ms us x low high start) (keptHolder Ta ms us x low high start) out out′ n h) (r .width) j)
+
+  pub joined-nested : (d : ℕ → Bool) → ((i : ℕ) → d i ≡ varies Ta w low i) → Ta start ≡ false → Ta high ≡ false
+      → Joined (nestedTree Ta ms us d w high start) (nestedHolder Ta ms us d w high start) out out′ n h
+      → Joined (columnsTree Ta ms us low high start) (columnsHolder Ta ms us low high start) out out′ n h
+  joined-nested d v e f j =
+      let q : d ≡ varies Ta w low = fun-ext v in
+      let k : Joined (nestedTree Ta ms us (varies Ta w low) w high start) (nestedHolder Ta ms us (varies Ta w low) w high start) out out′ n h
+      = subst (λ (x : ℕ → Bool). Joined (nestedTree Ta ms us x w high start) (nestedHolder Ta ms us x w high start) out out′ n h) q j in
+      rw (e, f) (subst (λ (x : ℕ). Joined (nestedTree Ta ms us (varies Ta x low) x high start) (nestedHolder Ta ms us (varies Ta x low) x high start) out out′ n h) (r .width) k)
+
+-- the same room for the row 0
+pub room-zero : {ms us : List ℕ} {w columns low high start room : ℕ} → Room ms us w columns low high start room → Room ms us w columns 0 high start room
+room-zero r = record {
+  width = r .width;
+  count = r .count;
+  most = r .most;
+  divides = r .divides;
+  low-below = omega (arith, r .low-below);
+  high-below = r .high-below;
+  inside = r .inside;
+  mark-groups = r .mark-groups;
+  other-groups = r .other-groups;
+  some-mark = r .some-mark;
+  space = r .space;
+}
+
+pub some-as : (Ta d : ℕ → Bool) (w low high : ℕ) (us : List ℕ) → ((i : ℕ) → d i ≡ varies Ta w low i) → Some (expand (varies Ta w low) high w us) → Some (expand d high w us)
+some-as Ta d w low high us v s = subst (λ (x : ℕ → Bool). Some (expand x high w us)) (sym (fun-ext v)) s
+
+pub room-for : {Ta : ℕ → Bool} {ms us : List ℕ} {w columns low high start room : ℕ} → Room ms us w columns 0 0 0 room → Ready Ta ms us w low high start → Room ms us w columns low high start room
+room-for {Ta} {ms} {us} {w} {columns} r s = record {
+  width = r .width;
+  count = r .count;
+  most = r .most;
+  divides = r .divides;
+  low-below = s .low-below;
+  high-below = s .high-below;
+  inside = let e : w * columns ≡ w * 2 ^ length us = ap (λ (x : ℕ). w * x) (r .count) in omega (arith, s .inside, r .most);
+  mark-groups = r .mark-groups;
+  other-groups = r .other-groups;
+  some-mark = r .some-mark;
+  space = r .space;
+}

@@ -1,14 +1,14 @@
 use mathlib.Core.Path.{_≡_, sym, _∙_}
 use Prim.Native.Nat.{_≤_, _-_}
 use native.Mathlib.Omega.{arith}
-use Rattle.gather.specs.Choosing.{agrees, firstFailing}
+use Rattle.columns.specs.Choosing.{agrees, firstFailing}
 use Rattle.table.specs.Table.{rowsOf}
-use Rattle.gather.proofs.BuildLaws.{agrees-inside, failing-turn, failing-stop, failing-end, failing-start}
-use Rattle.gather.proofs.first_failing.Statement.{statement}
-use Rattle.gather.proofs.first_failing.Tie as tie
-use Rattle.gather.proofs.first_failing.Reads as reads
-use Rattle.gather.proofs.first_failing.Lts as lts
-use Rattle.gather.proofs.agrees_at.Reads as agrees-at-reads
+use Rattle.columns.proofs.BuildLaws.{agrees-inside, failing-turn, failing-stop, failing-end, failing-start}
+use Rattle.columns.proofs.first_failing.Statement.{statement}
+use Rattle.columns.proofs.first_failing.Tie as tie
+use Rattle.columns.proofs.first_failing.Reads as reads
+use Rattle.columns.proofs.first_failing.Lts as lts
+use Rattle.columns.proofs.agrees_at.Reads as agrees-at-reads
 
 abbrev Inv-loop : tie.InvT-loop
 Inv-loop t w total low high start i₀ i = (i ≤ total) × (firstFailing (agrees (rowsOf t) w low high start) (total - i) i ≡ firstFailing (agrees (rowsOf t) w low high start) total 0)

@@ -1,9 +1,9 @@
 use native.Mathlib.Nat.{mod-le}
 use borrow.Author.Needs.{needs}
-use Rattle.gather.proofs.agrees_at.Statement.{statement}
-use Rattle.gather.proofs.agrees_at.Tie as tie
-use Rattle.gather.proofs.agrees_at.Reads as reads
-use Rattle.gather.proofs.agrees_at.Lts as lts
+use Rattle.columns.proofs.agrees_at.Statement.{statement}
+use Rattle.columns.proofs.agrees_at.Tie as tie
+use Rattle.columns.proofs.agrees_at.Reads as reads
+use Rattle.columns.proofs.agrees_at.Lts as lts
 
 rem-p : tie.Need-rem-p
 rem-p c = search needs

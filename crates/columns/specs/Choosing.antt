@@ -1,9 +1,9 @@
--- How the columns are chosen from a table, or refused, by two scans. proofs/Theorem.antt says what a choice means.
+-- How the columns are chosen from a table, or refused, by two scans. `gather` proofs/ChoosingLaws.antt says what a choice means.
 use mathlib.Core.Bool.{Bool, cond, Bool·beq, _&&_, _||_}
 use Prim.Native.Nat.{ℕ, zero, suc, _+_, _-_, _%_}
 use lib.Dec.{ltb}
-use Rattle.gather.specs.declared.Choice.{Choice}
-use Rattle.gather.specs.declared.Choice.the-variants.{Never, Constant, Columns}
+use Rattle.columns.specs.declared.Choice.{Choice}
+use Rattle.columns.specs.declared.Choice.the-variants.{Never, Constant, Columns}
 
 -- whether the value at row i of columns of w rows is A ∪ (B ∩ h): by its column's rows `low` and `high`, and by the column at `start`
 abbrev pub agrees : (ℕ → Bool) → ℕ → ℕ → ℕ → ℕ → ℕ → Bool
