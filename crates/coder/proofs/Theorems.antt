@@ -6,13 +6,14 @@ use mathlib.Core.List.{List, [], _∷_, _++_, append-assoc}
 use Prim.Native.Nat.{ℕ, _+_, _-_, _≤_, _<_}
 use native.Mathlib.Omega.{arith}
 use borrow.Author.Tests.{leb-true, leb-false, le-ltb}
-use lib.Dec.{T, leb, ltb}
+use lib.Dec.{leb, ltb}
 use lib.ListN.{length, take, drop, length-append}
 use lib.Seq.{take-at, drop-at}
-use Rattle.tree.specs.Tree.{Tree, leaf, node, isGroup, size, Rig, selected, mostNodes, Over}
+use Rattle.tree.specs.Tree.{Tree, isGroup, size, Rig, selected, mostNodes, Over}
 use Rattle.tree.specs.Context.{Frame, plug, OverAbove}
 use Rattle.tree.specs.Parse.{locate}
 use Rattle.tree.proofs.TreeLaws.{size-positive, group-least, group-most}
+use Rattle.tree.proofs.GroupLaws.{over-is-group}
 use Rattle.tree.proofs.ContextLaws.{located-whole}
 use Rattle.player.specs.Limits.{registerCount, byteCount}
 use Rattle.player.specs.Instructions.{Registers, Instruction, load, add, cut, run, answer, instructions, AllWellFormed}
@@ -47,15 +48,6 @@ thirteen-suffice t h =
     every-implies (wider 0 0 registerCount (0 + need t) (omega arith) (omega (arith, need-most t h))) (code t 0) (code-names t 0)
 
 -- every leaf's number is a group, so every instruction is one that the player takes
-over-is-group : (t : Tree) → Over isGroup t
-unfolding Over
-over-is-group (leaf g h) = holds (isGroup g) h
-  where
-    holds : (b : Bool) → T b → b ≡ true
-    holds true h = refl
-    holds false h = absurd h
-over-is-group (node o l r) = (over-is-group l, over-is-group r)
-
 well-formed-all : (is : List Instruction) → Every (Names 0 registerCount) is → Every (Loads isGroup) is → AllWellFormed is
 unfolding Every AllWellFormed
 well-formed-all [] p q = tt

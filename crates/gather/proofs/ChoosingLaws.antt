@@ -1,51 +1,33 @@
 -- What a choice means. If every row agrees with A ∪ (B ∩ h), the tree built is equivalent and gathered; if a row does not, its
 -- column and the chosen one are different and neither is constant, which gives the five fillings.
-use mathlib.Core.Path.{_≡_, refl, sym, ap, ap₂, subst, _∙_}
-use mathlib.Core.Bool.{Bool, true, false, not, cond, Bool·beq, _&&_, _||_, true≢false, false≢true}
-use mathlib.Core.Logic.{_⊎_, inl, inr, ⊎-elim}
-use mathlib.Core.List.{List, [], _∷_, _++_}
-use mathlib.Core.Option.{Option, some, none}
-use Prim.Native.Nat.{ℕ, zero, suc, _+_, _-_, _*_, _/_, _%_, _^_, _<_, _≤_}
-use native.Mathlib.Nat.{mul-suc, mul-zero, mul-comm, mul-le-mul-left, mod-eq-of-lt, mod-lt, mod-le, mod-add-div, add-mul-mod-self-left, div-lt-iff-lt-mul, eq-or-lt-of-le}
+use mathlib.Core.Path.{_≡_, refl, sym, ap, subst, _∙_}
+use mathlib.Core.Bool.{Bool, true, false, not, cond, Bool·beq, _&&_, _||_, true≢false}
+use mathlib.Core.Logic.{_⊎_, inl, inr}
+use mathlib.Core.List.{List, _++_}
+use mathlib.Core.Option.{Option, some}
+use Prim.Native.Nat.{ℕ, _+_, _-_, _*_, _/_, _%_, _^_, _<_, _≤_}
+use native.Mathlib.Nat.{mul-suc, mul-zero, mul-le-mul-left, mod-eq-of-lt, mod-lt, mod-le, mod-add-div, add-mul-mod-self-left}
 use native.Mathlib.Omega.{arith}
 use lib.Pow.{pow-pos}
 use lib.Dec.{ltb}
 use borrow.Author.Tests.{ltb-true, ltb-false}
 use lib.ListN.{length, getD}
 use Rattle.tree.specs.Tree.{Operator, union, difference, Tree, size, selects, Over, Equivalent, isIn}
-use Rattle.tree.proofs.TreeLaws.{or-right, is-in-append, selects-equivalent}
+use Rattle.tree.proofs.TreeLaws.{in-left, in-right, selects-equivalent}
+use Rattle.table.specs.Table.{filling, rowOf, Tabled}
+use Rattle.table.proofs.TableLaws.{row-below, row-append, row-agree, row-filling, selects-row, value-zero}
+use Rattle.builder.specs.Building.{selectsOptional, sizeOptional, OverOptional, join, single, expand, mostExpanded}
+use Rattle.builder.proofs.BuildingLaws.{join-over, join-size, single-over, single-size, beq-true, expand-over, expand-size}
+use Rattle.columns.proofs.BuildLaws.{Fails, first-fails, row-column, first-mark}
+use Rattle.columns.specs.Joining.{varies, columnsTree, constantTree, treeFor, holderFor}
+use Rattle.columns.specs.Choosing.{agrees, failing, settled, chosenAt, choice}
+use Rattle.columns.specs.Inner.{ReadyFor}
+use Rattle.columns.specs.declared.Choice.{Choice}
+use Rattle.columns.specs.declared.Choice.the-variants.{Never, Constant, Columns}
 use Rattle.gather.specs.Gathering.{Gathered}
-use Rattle.gather.specs.Columns.{mixed, column, FiveFillings}
-use Rattle.gather.specs.Table.{filling, rowOf}
-use Rattle.gather.specs.Building.{selectsOptional, sizeOptional, OverOptional, join, single, expand, mostExpanded, varies, columnsTree, columnsHolder, constantTree, treeFor, holderFor}
-use Rattle.gather.specs.Choosing.{agrees, firstFailing, failing, settled, chosenAt, choice}
-use Rattle.gather.specs.Inner.{Tabled, Parts, ReadyFor}
-use Rattle.gather.specs.declared.Choice.{Choice}
-use Rattle.gather.specs.declared.Choice.the-variants.{Never, Constant, Columns}
-use Rattle.gather.proofs.TableLaws.{row-below, row-append, row-agree, row-filling, selects-row, value-zero}
-use Rattle.gather.proofs.BuildingLaws.{join-over, join-size, single-over, single-size, beq-true, expand-over, expand-size}
-use Rattle.gather.proofs.JoiningLaws.{GatheredOptional, columns-selects, constant-selects, columns-gathered, columns-ready, constant-gathered, first-mark}
-
--- ---- the first number that fails a test
-pub record Fails (f : ℕ → Bool) (k i j : ℕ) : Type 0 where
-  pub from : i ≤ j
-  pub upto : j ≤ i + k
-  pub passed : (n : ℕ) → i ≤ n → n < j → f n ≡ true
-  pub fails : j < i + k → f j ≡ false
-
-pub first-fails : (f : ℕ → Bool) (k i : ℕ) → Fails f k i (firstFailing f k i)
-unfolding firstFailing
-first-fails f zero i = record { from = omega arith; upto = omega arith; passed = λ n a b. absurd (omega arith); fails = λ h. absurd (omega arith) }
-first-fails f (suc k) i = go (f i) refl (first-fails f k (suc i))
-  where
-    go : (b : Bool) → f i ≡ b → Fails f k (suc i) (firstFailing f k (suc i)) → Fails f (suc k) i (cond b (firstFailing f k (suc i)) i)
-    go true e h = record {
-      from = omega (arith, h .from);
-      upto = omega (arith, h .upto);
-      passed = λ n a b. ⊎-elim (λ q. subst (λ (x : ℕ). f x ≡ true) q e) (λ q. h .passed n q b) (eq-or-lt-of-le a);
-      fails = λ l. h .fails (omega arith);
-    }
-    go false e h = record { from = omega arith; upto = omega arith; passed = λ n a b. absurd (omega arith); fails = λ l. e }
+use Rattle.gather.specs.Columns.{mixed, FiveFillings}
+use Rattle.gather.specs.Inner.{Parts}
+use Rattle.gather.proofs.JoiningLaws.{columns-selects, constant-selects, columns-gathered, columns-ready, constant-gathered}
 
 -- ---- rows of columns of w rows
 place-below : (w k p n : ℕ) → p < w → k < n → p + w * k < w * n
@@ -53,9 +35,6 @@ place-below w k p n h l = let e = mul-le-mul-left w l in omega (arith, mul-suc w
 
 place-mod : (w k p : ℕ) → p < w → (p + w * k) % w ≡ p
 place-mod w k p h = add-mul-mod-self-left p w k ∙ mod-eq-of-lt h
-
-pub row-column : (w n i : ℕ) → 0 < w → i < w * n → i / w < n
-row-column w n i pos h = div-lt-iff-lt-mul {k = w} {x = i} {y = n} pos .1 (rw (mul-comm n w) h)
 
 -- the columns chosen: the one of the other groups' row `other` has row `low` false and row `high` true, and one of the two is row 0
 pub record Chosen (Ta : ℕ → Bool) (ms us : List ℕ) (low high start : ℕ) : Type 0 where
@@ -83,12 +62,6 @@ abbrev pub Verdict : (ℕ → Bool) → (ℕ → Bool) → List ℕ → List ℕ
 Verdict m Ta ms us t Never = FiveFillings m t
 Verdict m Ta ms us t Constant = Result m Ta ms us t Constant
 Verdict m Ta ms us t (Columns low high start) = Result m Ta ms us t (Columns low high start)
-
-in-left : (ms us : List ℕ) (g : ℕ) → isIn ms g ≡ true → isIn (ms ++ us) g ≡ true
-in-left ms us g e = is-in-append ms us g ∙ ap (λ (b : Bool). b || isIn us g) e
-
-in-right : (ms us : List ℕ) (g : ℕ) → isIn us g ≡ true → isIn (ms ++ us) g ≡ true
-in-right ms us g e = is-in-append ms us g ∙ or-right (isIn ms g) (isIn us g) e
 
 or-left-false : (a b : Bool) → a || b ≡ false → a ≡ false
 or-left-false true b e = e

@@ -7,8 +7,8 @@ use mathlib.Core.List.{List, [], _∷_, _++_, append-assoc, append-nil}
 use Prim.Native.Nat.{ℕ, _+_, _-_}
 use native.Mathlib.Omega.{arith}
 use lib.ListN.{length, length-append}
-use Rattle.tree.specs.Tree.{Operator, union, difference, Tree, leaf, node, postfix, size, apply, selects, Equivalent, Over}
-use Rattle.tree.specs.Context.{Side, left, right, Frame, frame, sided, plug, before, position, selectsAbove, OverAbove}
+use Rattle.tree.specs.Tree.{Operator, union, difference, Tree, node, postfix, size, apply, selects, Over}
+use Rattle.tree.specs.Context.{Side, left, right, Frame, frame, sided, plug, before, selectsAbove, OverAbove}
 use Rattle.tree.proofs.TreeLaws.{postfix-length, size-positive, selects-agree, equivalent-selects}
 use Rattle.tree.proofs.ContextLaws.{selects-plug, plug-append}
 use Rattle.gather.specs.Gathering.{Gathered, CannotBeGathered}

@@ -1,22 +1,24 @@
 -- The gathered tree A ∪ (B ∩ h) in its three forms, and A ∪ (m − m) where all columns are constant:
 -- what they select, over which groups they are, where the holder is, and how large they are.
 use mathlib.Core.Path.{_≡_, refl, sym, ap, ap₂, subst, _∙_}
-use mathlib.Core.Bool.{Bool, true, false, not, cond, Bool·beq, _&&_, _||_, true≢false, false≢true}
-use mathlib.Core.List.{List, [], _∷_, _++_}
+use mathlib.Core.Bool.{Bool, true, false, not, cond, Bool·beq, _&&_, _||_, true≢false}
+use mathlib.Core.List.{List}
 use mathlib.Core.Option.{Option, some, none}
-use Prim.Native.Nat.{ℕ, zero, suc, _+_, _-_, _*_, _%_, _^_, _<_, _≤_}
+use Prim.Native.Nat.{ℕ, _+_, _-_, _*_, _%_, _^_, _<_}
 use native.Mathlib.Nat.{mod-eq-of-lt, add-mul-mod-self-left, mul-suc, mul-le-mul-left}
 use native.Mathlib.Omega.{arith}
 use lib.ListN.{length, getD}
-use Rattle.tree.specs.Tree.{Operator, union, difference, Tree, leaf, node, isGroup, size, selects, Over, isIn}
+use Rattle.tree.specs.Tree.{union, difference, Tree, leaf, node, size, Over}
 use Rattle.tree.proofs.TreeLaws.{size-positive}
+use Rattle.table.specs.Table.{rowOf}
+use Rattle.builder.specs.Building.{selectsOptional, sizeOptional, OverOptional, join, single, differs, expand}
+use Rattle.builder.proofs.BuildingLaws.{join-selects, single-leaf, single-over, group-holds, every-passes, Passes, implies, implied, implies-by, beq-true, expand-selects, expand-over, expand-some}
+use Rattle.columns.proofs.BuildLaws.{first-mark}
+use Rattle.columns.specs.Joining.{varies, columnsTree, columnsHolder, constantTree, constantHolder}
+use Rattle.columns.specs.Inner.{Ready}
 use Rattle.gather.specs.Gathering.{Gathered}
-use Rattle.gather.specs.Table.{rowOf}
-use Rattle.gather.specs.Building.{selectsOptional, sizeOptional, OverOptional, join, single, differs, expand, mostExpanded, varies, columnsTree, columnsHolder, constantTree, constantHolder}
-use Rattle.gather.specs.Inner.{Parts, Ready}
+use Rattle.gather.specs.Inner.{Parts}
 use Rattle.gather.proofs.GatheringLaws.{unmarked, gathered-whole, gathered-left, gathered-right}
-use Rattle.gather.proofs.TableLaws.{in-first}
-use Rattle.gather.proofs.BuildingLaws.{join-selects, join-over, join-size, single-leaf, single-over, group-holds, every-passes, Passes, implies, implied, implies-by, beq-true, expand-selects, expand-over, expand-size, expand-some}
 
 -- ---- gathered, of no tree or a tree
 pub record GatheredOptional (m : ℕ → Bool) (o : Option Tree) (p : ℕ) : Type 0 where
@@ -130,10 +132,6 @@ module _ (Ta : ℕ → Bool) (ms us : List ℕ) {m : ℕ → Bool} (parts : Part
 -- ---- where the holder is
 at-position : {m : ℕ → Bool} {o : Option Tree} {p q : ℕ} → p ≡ q → GatheredOptional m o p → GatheredOptional m o q
 at-position {m} {o} e g = subst (GatheredOptional m o) e g
-
-pub first-mark : (ms : List ℕ) → 0 < length ms → isIn ms (getD ms 0 0) ≡ true
-first-mark [] h = absurd (omega arith)
-first-mark (x ∷ ms) h = in-first x ms
 
 module _ (Ta : ℕ → Bool) (ms us : List ℕ) {m : ℕ → Bool} (parts : Parts m ms us) where
   -- over unmarked groups, and over marked ones

@@ -1,14 +1,8 @@
 -- The theorem, and the laws of the definitions in specs/, for this crate and those above it.
 pub mod GatheringLaws
-pub mod TableLaws
-pub mod BuildingLaws
 pub mod JoiningLaws
 pub mod ChoosingLaws
-pub mod GroupsLaws
 pub mod HoldingLaws
-mod EmitLaws
-mod EntryLaws
 mod LoopLaws
-mod BuildLaws
 mod WholeLaws
 pub mod Theorem

@@ -1,38 +1,24 @@
 -- One turn of each loop over a list of groups or marks.
-use mathlib.Core.Path.{_≡_, refl, sym, ap, subst, _∙_}
+use mathlib.Core.Path.{_≡_, refl, sym, ap, _∙_}
 use mathlib.Core.Bool.{Bool, true, false, not, cond, _||_}
-use mathlib.Core.List.{List, [], _∷_, _++_, append-assoc, append-nil}
+use mathlib.Core.List.{List, [], _∷_, _++_, append-nil}
 use mathlib.Core.Option.{Option}
-use Prim.Native.Nat.{ℕ, zero, suc, _+_, _-_, _/_, _%_, _≤_, _<_}
+use Prim.Native.Nat.{ℕ, _+_, _-_, _≤_, _<_}
 use native.Mathlib.Omega.{arith}
 use native.Mathlib.Numerals.{add-one}
 use lib.Dec.{T, eqb, ltb}
 use borrow.Author.Tests.{eq-eqb, ne-eqb, lt-ltb, le-ltb}
 use lib.ListN.{length, getD, set, take, drop, length-append, length-drop, drop-of-length-le}
 use lib.Seq.{take-all, take-suc-set, length-take-le}
-use Rattle.tree.specs.Tree.{Operator, union, difference, sign, Tree, leaf, node, isGroup, postfix, leaves, mostNodes, isIn, withNew, collect}
+use Rattle.tree.specs.Tree.{Operator, union, difference, sign, Tree, leaf, node, postfix, leaves, mostNodes, isIn, withNew, collect}
 use Rattle.tree.proofs.TreeLaws.{group-most}
 use Rattle.tree.specs.Parse.{treeOf, isSome}
+use Rattle.tree.proofs.GroupLaws.{collect-longer}
 use Rattle.tree.proofs.PassLaws.{here}
 use Rattle.tree.proofs.ParseLaws.{the-tree, no-tree-of}
-use Rattle.gather.specs.Table.{filling, mostGroups}
+use Rattle.table.specs.Table.{mostGroups}
 use Rattle.gather.specs.Inner.{leavesIn, Collected}
 use Rattle.gather.specs.Answer.{badMark, groupsFault, treeFault, fault}
-use Rattle.gather.proofs.GroupsLaws.{collect-longer}
-
--- ---- the search for a group in a row
-module _ (gs : List ℕ) (i bits g : ℕ) where
-  pub filling-here : i < length gs → g ≡ getD gs i 0 → filling (drop i gs) bits g ≡ eqb (bits % 2) 1
-  unfolding filling
-  filling-here h e = rw (here gs i h, eq-eqb g (getD gs i 0) e)
-
-  pub filling-on : i < length gs → (g ≡ getD gs i 0 → ⊥) → filling (drop i gs) bits g ≡ filling (drop (i + 1) gs) (bits / 2) g
-  unfolding filling
-  filling-on h e = rw (here gs i h, ne-eqb g (getD gs i 0) e)
-
-  pub filling-none : length gs ≤ i → filling (drop i gs) bits g ≡ false
-  unfolding filling
-  filling-none h = rw (drop-of-length-le gs h)
 
 -- ---- the search in a list
 module _ (gs : List ℕ) (i x : ℕ) where
@@ -125,18 +111,18 @@ module _ (found list : List ℕ) (count i : ℕ) where
       ∙ ap (λ (xs : List ℕ). collect xs (leavesIn (drop (i + 1) list))) (sym (ap (λ (k : ℕ). take k (set found count (getD list i 0))) (add-one count) ∙ take-suc-set found count (getD list i 0) r))
 
   -- a ninth does not fit
-  pub collect-many : (gs : List ℕ) → i < length list → getD list i 0 < sign union → isIn (take count found) (getD list i 0) ≡ false → count ≡ 8 → length found ≡ 8
-      → collect (take count found) (leavesIn (drop i list)) ≡ gs → Collected gs found 9
+  pub collect-many : (gs : List ℕ) → i < length list → getD list i 0 < sign union → isIn (take count found) (getD list i 0) ≡ false → count ≡ mostGroups → length found ≡ mostGroups
+      → collect (take count found) (leavesIn (drop i list)) ≡ gs → Collected gs found (mostGroups + 1)
   collect-many gs h l e n r q = record {
     fits = λ k. absurd (omega arith);
     more = λ k.
-        let f : length (take count found) ≡ 8 = length-take-le count found (omega arith) ∙ n in
+        let f : length (take count found) ≡ mostGroups = length-take-le count found (omega arith) ∙ n in
         let b = collect-longer (take count found ++ (getD list i 0 ∷ [])) (leavesIn (drop (i + 1) list)) in
         let c : length gs ≡ length (collect (take count found ++ (getD list i 0 ∷ [])) (leavesIn (drop (i + 1) list))) = ap length (sym q ∙ collect-new (take count found) list i h l e) in
         omega (arith, length-append (take count found) (getD list i 0 ∷ []));
   }
 
-  pub collected : (gs : List ℕ) → length list ≤ i → count ≤ 8 → collect (take count found) (leavesIn (drop i list)) ≡ gs → Collected gs found count
+  pub collected : (gs : List ℕ) → length list ≤ i → count ≤ mostGroups → collect (take count found) (leavesIn (drop i list)) ≡ gs → Collected gs found count
   collected gs h n q = record { fits = λ k. sym (collect-end (take count found) list i h) ∙ q; more = λ k. absurd (omega arith) }
 
 -- ---- the first fault
@@ -160,11 +146,11 @@ module _ (list marks : List ℕ) (room : ℕ) where
         ap (λ (gs : List ℕ). groupsFault gs marks) (ap (λ (xs : List ℕ). collect [] (leavesIn xs)) (T .list) ∙ ap (collect []) (leaves-postfix (T .tree)))
         ∙ sym (ap (λ (o : Option Tree). treeFault o marks) (T .is)) ∙ fault-tree
 
-    pub fault-many : (found : List ℕ) (count : ℕ) → isSome (treeOf list) ≡ true → Collected (collect [] (leavesIn list)) found count → 8 < count → 17 ≡ fault list marks room
+    pub fault-many : (found : List ℕ) (count : ℕ) → isSome (treeOf list) ≡ true → Collected (collect [] (leavesIn list)) found count → mostGroups < count → 17 ≡ fault list marks room
     fault-many found count e c k = sym (sym (fault-groups e) ∙ rw (lt-ltb mostGroups (length (collect [] (leavesIn list))) (c .more k)))
 
-    pub fault-marks : (found : List ℕ) (count : ℕ) (bad : Bool) → isSome (treeOf list) ≡ true → Collected (collect [] (leavesIn list)) found count → count ≤ 8 → length found ≡ 8
+    pub fault-marks : (found : List ℕ) (count : ℕ) (bad : Bool) → isSome (treeOf list) ≡ true → Collected (collect [] (leavesIn list)) found count → count ≤ mostGroups → length found ≡ mostGroups
         → bad ≡ (eqb (length marks) 0 || badMark (take count found) marks) → cond bad 18 0 ≡ fault list marks room
     fault-marks found count bad e c k l q =
-        let z : length (collect [] (leavesIn list)) ≤ 8 = omega (arith, ap length (c .fits k), length-take-le count found (omega arith)) in
+        let z : length (collect [] (leavesIn list)) ≤ mostGroups = omega (arith, ap length (c .fits k), length-take-le count found (omega arith)) in
         sym (sym (fault-groups e) ∙ rw (le-ltb mostGroups (length (collect [] (leavesIn list))) z, ← (c .fits k), ← q))

@@ -1,24 +1,24 @@
 -- THE THEOREM: whichever tree and whichever marks of at least one group, no tree of unions and differences, of any size and over
 -- any groups, is equivalent and gathered exactly when two columns are different and neither is constant.
 use mathlib.Core.Path.{_≡_, refl, sym, ap, _∙_}
-use mathlib.Core.Bool.{Bool, true, false, not, cond, _&&_, _||_, true≢false, false≢true}
+use mathlib.Core.Bool.{Bool, true, false, not, cond, _&&_, _||_, false≢true}
 use mathlib.Core.List.{List, [], _∷_, _++_}
-use Prim.Native.Nat.{ℕ, zero, suc, _*_, _^_, _<_, _≤_}
-use native.Mathlib.Omega.{arith}
+use Prim.Native.Nat.{ℕ, _*_, _^_}
 use lib.Dec.{eqb}
-use borrow.Author.Tests.{eqb-true, eq-eqb}
+use borrow.Author.Tests.{eqb-true, not-true}
 use lib.ListN.{length}
-use Rattle.tree.specs.Tree.{Tree, isGroup, Over, leaves, isIn, collect}
-use Rattle.tree.proofs.TreeLaws.{or-right, is-in-append, over-leaves, over-implies}
-use Rattle.gather.specs.Gathering.{Gathered, CannotBeGathered}
-use Rattle.gather.specs.Columns.{TwoColumns, FiveFillings, Criterion}
-use Rattle.gather.specs.Table.{valueAt}
-use Rattle.gather.specs.Choosing.{choice}
-use Rattle.gather.specs.Inner.{Distinct, Tabled, Parts}
-use Rattle.gather.specs.declared.Choice.{Choice}
-use Rattle.gather.specs.declared.Choice.the-variants.{Never, Constant, Columns}
+use Rattle.tree.specs.Tree.{Tree, isGroup, Over, leaves, isIn, collect, Distinct}
+use Rattle.tree.proofs.TreeLaws.{or-right, or-cases, in-left, in-right, over-leaves, over-implies}
+use Rattle.tree.proofs.GroupLaws.{in-collect, distinct-collect, collect-longer, leaves-groups}
+use Rattle.table.specs.Table.{valueAt}
+use Rattle.builder.proofs.BuildingLaws.{both}
+use Rattle.columns.specs.Choosing.{choice}
+use Rattle.columns.specs.declared.Choice.{Choice}
+use Rattle.columns.specs.declared.Choice.the-variants.{Never, Constant, Columns}
+use Rattle.gather.specs.Gathering.{CannotBeGathered}
+use Rattle.gather.specs.Columns.{FiveFillings, Criterion}
+use Rattle.gather.specs.Inner.{Parts}
 use Rattle.gather.proofs.GatheringLaws.{unmarked, fillings-cannot, fillings-columns, columns-fillings}
-use Rattle.gather.proofs.GroupsLaws.{or-cases, in-collect, distinct-collect, collect-longer, leaves-groups}
 use Rattle.gather.proofs.ChoosingLaws.{Verdict, verdict}
 
 -- the numbers of a list that pass a test
@@ -41,14 +41,6 @@ in-keep f (x ∷ gs) g = go (f x) refl (eqb g x) refl (in-keep f gs g)
     go false p true q i = i ∙ (ap (λ (a : Bool). isIn gs g && a) (ap f (eqb-true g x q) ∙ p) ∙ (and-none (isIn gs g) ∙ sym (ap f (eqb-true g x q) ∙ p)))
     go false p false q i = i
 
-both : (a b : Bool) → (a && b) ≡ true → (a ≡ true) × (b ≡ true)
-both true b e = (refl, e)
-both false b e = absurd (false≢true e)
-
-not-false : (b : Bool) → not b ≡ true → b ≡ false
-not-false true e = absurd (false≢true e)
-not-false false e = refl
-
 module _ (m : ℕ → Bool) (x : ℕ) (group : isGroup x ≡ true) (marked : m x ≡ true) (t : Tree) where
   -- the marked groups, x and those of the tree, and the tree's others
   ms : List ℕ
@@ -67,7 +59,7 @@ module _ (m : ℕ → Bool) (x : ℕ) (group : isGroup x ≡ true) (marked : m x
   unfolding us isIn
   in-others g e =
       let z = both (isIn (leaves t) g) (not (m g)) (sym (in-keep (unmarked m) (leaves t) g) ∙ sym (in-collect [] (keep (unmarked m) (leaves t)) g) ∙ e) in
-      (z .0, not-false (m g) (z .1))
+      (z .0, not-true (m g) (z .1))
 
   parts : Parts m ms us
   unfolding ms us Distinct isIn
@@ -83,11 +75,11 @@ module _ (m : ℕ → Bool) (x : ℕ) (group : isGroup x ≡ true) (marked : m x
 
   over : Over (isIn (ms ++ us)) t
   unfolding ms us isIn
-  over = over-implies (λ g e. is-in-append ms us g ∙ go g e (m g) refl) t (over-leaves t)
+  over = over-implies (λ g e. go g e (m g) refl) t (over-leaves t)
     where
-      go : (g : ℕ) → isIn (leaves t) g ≡ true → (b : Bool) → m g ≡ b → (isIn ms g || isIn us g) ≡ true
-      go g e true q = ap (λ (b : Bool). b || isIn us g) (in-collect (x ∷ []) (keep m (leaves t)) g ∙ or-right (isIn (x ∷ []) g) (isIn (keep m (leaves t)) g) (in-keep m (leaves t) g ∙ rw (e, q)))
-      go g e false q = or-right (isIn ms g) (isIn us g) (in-collect [] (keep (unmarked m) (leaves t)) g ∙ in-keep (unmarked m) (leaves t) g ∙ rw (e, q))
+      go : (g : ℕ) → isIn (leaves t) g ≡ true → (b : Bool) → m g ≡ b → isIn (ms ++ us) g ≡ true
+      go g e true q = in-left ms us g (in-collect (x ∷ []) (keep m (leaves t)) g ∙ or-right (isIn (x ∷ []) g) (isIn (keep m (leaves t)) g) (in-keep m (leaves t) g ∙ rw (e, q)))
+      go g e false q = in-right ms us g (in-collect [] (keep (unmarked m) (leaves t)) g ∙ in-keep (unmarked m) (leaves t) g ∙ rw (e, q))
 
   -- a gathered tree, or five fillings
   cannot-five : CannotBeGathered m t → FiveFillings m t

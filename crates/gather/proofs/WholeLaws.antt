@@ -1,96 +1,42 @@
 -- The whole: what has no fault, the groups with the marks first, and what a choice and its tree say of the given tree.
-use mathlib.Core.Path.{_≡_, refl, sym, ap, ap₂, subst, fun-ext, _∙_}
+use mathlib.Core.Path.{_≡_, refl, sym, ap, ap₂, subst, _∙_}
 use mathlib.Core.Bool.{Bool, true, false, not, cond, _||_, true≢false, false≢true}
 use mathlib.Core.Logic.{inl, inr}
-use mathlib.Core.List.{List, [], _∷_, _++_, append-assoc, append-nil}
+use mathlib.Core.List.{List, [], _∷_, _++_}
 use mathlib.Core.Option.{Option, some, none}
 use Prim.Native.Nat.{ℕ, zero, suc, _+_, _-_, _*_, _^_, _<_, _≤_}
 use native.Mathlib.Nat.{mul-le-mul-left, pow-suc, mul-one}
 use native.Mathlib.Omega.{arith}
-use lib.Pow.{pow-pos, pow-mono, pow-add}
+use lib.Pow.{pow-pos, pow-add}
 use lib.Dec.{eqb, ltb}
-use borrow.Author.Tests.{lt-ltb, le-ltb, ltb-true, ltb-false, eqb-true, eqb-false, eq-eqb, not-true, not-false}
+use borrow.Author.Tests.{lt-ltb, ltb-true, ltb-false, eqb-true, eqb-false, not-false}
 use lib.ListN.{length, getD, take, drop, length-append, length-drop, take-append-drop}
 use lib.Seq.{take-all, take-at, drop-at, length-take-le}
-use Rattle.tree.specs.Tree.{Tree, sign, union, isGroup, postfix, size, mostNodes, Over, leaves, isIn, withNew, collect, groups, Equivalent}
+use Rattle.tree.specs.Tree.{Tree, sign, union, isGroup, postfix, size, mostNodes, Over, leaves, isIn, collect, groups, Distinct}
 use Rattle.tree.specs.Parse.{treeOf}
 use Rattle.tree.specs.Writing.{over, Wrote}
-use Rattle.tree.proofs.TreeLaws.{postfix-length, equivalent-refl, over-implies, or-right, is-in-append, group-most}
-use Rattle.tree.proofs.ParseLaws.{IsTree, tree-of-sound, tree-of-postfix, parse-sound, postfix-injective}
+use Rattle.tree.proofs.TreeLaws.{postfix-length, equivalent-refl, over-implies, or-cases, in-right, group-most}
+use Rattle.tree.proofs.GroupLaws.{is-in-here, in-later, in-collect, distinct-collect, distinct-split, collect-begins, collect-distinct, distinct-most, leaves-groups, groups-leaves, over-collect}
+use Rattle.tree.proofs.ParseLaws.{IsTree, tree-of-sound, postfix-injective}
 use Rattle.tree.proofs.WritingLaws.{wrote-over}
-use Rattle.gather.specs.Gathering.{Gathered, CannotBeGathered}
-use Rattle.gather.specs.Table.{rowCount, valueAt, table}
-use Rattle.gather.specs.Building.{postfixOptional, sizeOptional, expand, mostExpanded, varies, removedTree, removedHolder, keptTree, keptHolder, nestedTree, nestedHolder, columnsTree, columnsHolder, treeFor, holderFor}
-use Rattle.gather.specs.Choosing.{choice}
-use Rattle.gather.specs.Inner.{rowsOf, Distinct, Tabled, Parts, leavesIn, Listed, Collected, Scanned, Room, Some, Ready, ReadyFor, Joined, BuiltFor, Ordered}
+use Rattle.table.specs.Table.{mostGroups, rowCount, table, rowsOf, Tabled, Listed}
+use Rattle.table.proofs.TableLaws.{table-at, rows-most}
+use Rattle.builder.specs.Building.{postfixOptional, mostExpanded}
+use Rattle.columns.specs.Joining.{treeFor, holderFor}
+use Rattle.columns.specs.Choosing.{choice}
+use Rattle.columns.specs.Inner.{Scanned, Room, ReadyFor, Joined}
+use Rattle.columns.specs.declared.Choice.{Choice}
+use Rattle.columns.specs.declared.Choice.the-variants.{Never, Constant, Columns}
+use Rattle.gather.specs.Gathering.{Gathered}
+use Rattle.gather.specs.Inner.{Parts, leavesIn, Collected, BuiltFor, Ordered}
 use Rattle.gather.specs.Answer.{badMark, groupsFault, treeFault, fault, GatheredTo, GathersTree}
-use Rattle.gather.specs.declared.Choice.{Choice}
 use Rattle.gather.specs.declared.Status.the-variants.{Free, Mixed}
-use Rattle.gather.specs.declared.Choice.the-variants.{Never, Constant, Columns}
 use Rattle.gather.specs.declared.Gathering.{Gathering}
 use Rattle.gather.specs.declared.Gathering.the-variants.{Done, Refused}
 use Rattle.gather.proofs.GatheringLaws.{fillings-cannot}
-use Rattle.gather.proofs.TableLaws.{table-at, rows-most, in-first, in-rest}
-use Rattle.gather.proofs.GroupsLaws.{or-cases, in-collect, distinct-collect, distinct-split, collect-begins, no-more, leaves-groups, in-groups, over-collect}
 use Rattle.gather.proofs.ChoosingLaws.{Result, Verdict, verdict}
-use Rattle.gather.proofs.HoldingLaws.{Names, status-gathered, status-not}
-use Rattle.gather.proofs.EmitLaws.{optional-length}
+use Rattle.gather.proofs.HoldingLaws.{Names}
 use Rattle.gather.proofs.LoopLaws.{leaves-postfix}
-
--- ---- the three forms of the columns' tree
-module _ (Ta : ℕ → Bool) {ms us : List ℕ} {w columns low high start room : ℕ} (r : Room ms us w columns low high start room) {out out′ : List ℕ} {n h : ℕ} where
-  pub joined-removed : Ta start ≡ true → Joined (removedTree Ta ms us w low high start) (removedHolder Ta ms us w low high start) out out′ n h
-      → Joined (columnsTree Ta ms us low high start) (columnsHolder Ta ms us low high start) out out′ n h
-  joined-removed e j =
-      rw e (subst (λ (x : ℕ). Joined (removedTree Ta ms us x low high start) (removedHolder Ta ms us x low high start) out out′ n h) (r .width) j)
-
-  pub joined-kept : Ta start ≡ false → Ta high ≡ true → Joined (keptTree Ta ms us w low high start) (keptHolder Ta ms us w low high start) out out′ n h
-      → Joined (columnsTree Ta ms us low high start) (columnsHolder Ta ms us low high start) out out′ n h
-  joined-kept e f j =
-      rw (e, f) (subst (λ (x : ℕ). Joined (keptTree Ta ms us x low high start) (keptHolder Ta ms us x low high start) out out′ n h) (r .width) j)
-
-  pub joined-nested : (d : ℕ → Bool) → ((i : ℕ) → d i ≡ varies Ta w low i) → Ta start ≡ false → Ta high ≡ false
-      → Joined (nestedTree Ta ms us d w high start) (nestedHolder Ta ms us d w high start) out out′ n h
-      → Joined (columnsTree Ta ms us low high start) (columnsHolder Ta ms us low high start) out out′ n h
-  joined-nested d v e f j =
-      let q : d ≡ varies Ta w low = fun-ext v in
-      let k : Joined (nestedTree Ta ms us (varies Ta w low) w high start) (nestedHolder Ta ms us (varies Ta w low) w high start) out out′ n h
-      = subst (λ (x : ℕ → Bool). Joined (nestedTree Ta ms us x w high start) (nestedHolder Ta ms us x w high start) out out′ n h) q j in
-      rw (e, f) (subst (λ (x : ℕ). Joined (nestedTree Ta ms us (varies Ta x low) x high start) (nestedHolder Ta ms us (varies Ta x low) x high start) out out′ n h) (r .width) k)
-
--- the same room for the row 0
-pub room-zero : {ms us : List ℕ} {w columns low high start room : ℕ} → Room ms us w columns low high start room → Room ms us w columns 0 high start room
-room-zero r = record {
-  width = r .width;
-  count = r .count;
-  most = r .most;
-  divides = r .divides;
-  low-below = omega (arith, r .low-below);
-  high-below = r .high-below;
-  inside = r .inside;
-  mark-groups = r .mark-groups;
-  other-groups = r .other-groups;
-  some-mark = r .some-mark;
-  space = r .space;
-}
-
-pub some-as : (Ta d : ℕ → Bool) (w low high : ℕ) (us : List ℕ) → ((i : ℕ) → d i ≡ varies Ta w low i) → Some (expand (varies Ta w low) high w us) → Some (expand d high w us)
-some-as Ta d w low high us v s = subst (λ (x : ℕ → Bool). Some (expand x high w us)) (sym (fun-ext v)) s
-
-pub room-for : {Ta : ℕ → Bool} {ms us : List ℕ} {w columns low high start room : ℕ} → Room ms us w columns 0 0 0 room → Ready Ta ms us w low high start → Room ms us w columns low high start room
-room-for {Ta} {ms} {us} {w} {columns} r s = record {
-  width = r .width;
-  count = r .count;
-  most = r .most;
-  divides = r .divides;
-  low-below = s .low-below;
-  high-below = s .high-below;
-  inside = let e : w * columns ≡ w * 2 ^ length us = ap (λ (x : ℕ). w * x) (r .count) in omega (arith, s .inside, r .most);
-  mark-groups = r .mark-groups;
-  other-groups = r .other-groups;
-  some-mark = r .some-mark;
-  space = r .space;
-}
 
 -- ---- sizes
 most-power : (k : ℕ) → mostExpanded k + 5 ≡ 5 * 2 ^ k
@@ -115,7 +61,7 @@ module _ {list gs : List ℕ} {m : ℕ} (o : Ordered list gs m) where
     pub total-is : w * columns ≡ 2 ^ length gs
     total-is = ap₂ _*_ ew ec ∙ sym (pow-add 2 m (length gs - m)) ∙ ap (λ (k : ℕ). 2 ^ k) (let e : m + (length gs - m) ≡ length gs = omega (arith, o .within) in e)
 
-    pub total-most : w * columns ≤ 256
+    pub total-most : w * columns ≤ rowCount
     total-most = omega (arith, total-is, rows-most (length gs) (o .most))
 
     pub scanned : Scanned w (w * columns) 0 0 0
@@ -128,15 +74,15 @@ module _ {list gs : List ℕ} {m : ℕ} (o : Ordered list gs m) where
     pub room : (n : ℕ) → mostNodes ≤ n → Room (take m gs) (drop m gs) w columns 0 0 0 n
     room n h =
         let p : 0 < w = omega (arith, ew, pow-pos m) in
-        let d : 256 ≡ w * 2 ^ (8 - m)
-        = ap (λ (k : ℕ). 2 ^ k) (let e : 8 ≡ m + (8 - m) = omega (arith, o .within, o .most) in e) ∙ pow-add 2 m (8 - m) ∙ ap (λ (x : ℕ). x * 2 ^ (8 - m)) (sym ew) in
-        let k : length (drop m gs) ≤ 8 = omega (arith, length-drop m gs, o .most) in
-        let l : length (take m gs) ≤ 8 = omega (arith, marks-length, o .within, o .most) in
+        let d : rowCount ≡ w * 2 ^ (mostGroups - m)
+        = ap (λ (k : ℕ). 2 ^ k) (let e : mostGroups ≡ m + (mostGroups - m) = omega (arith, o .within, o .most) in e) ∙ pow-add 2 m (mostGroups - m) ∙ ap (λ (x : ℕ). x * 2 ^ (mostGroups - m)) (sym ew) in
+        let k : length (drop m gs) ≤ mostGroups = omega (arith, length-drop m gs, o .most) in
+        let l : length (take m gs) ≤ mostGroups = omega (arith, marks-length, o .within, o .most) in
         record {
           width = width-is;
           count = count-is;
           most = total-most;
-          divides = (2 ^ (8 - m), d);
+          divides = (2 ^ (mostGroups - m), d);
           low-below = p;
           high-below = p;
           inside = let e = scanned .inside in omega (arith, total-most);
@@ -208,10 +154,6 @@ module _ {list gs : List ℕ} {m : ℕ} (o : Ordered list gs m) where
             (a, b, fillings-cannot (subst (Verdict (isIn (take m gs)) (rowsOf rows) (take m gs) (drop m gs) t) d judgement))
 
 -- ---- nothing at fault
-not-in : (b : Bool) → (b ≡ true → ⊥) → b ≡ false
-not-in true h = absurd (h refl)
-not-in false h = refl
-
 both-false : (a b : Bool) → (a || b) ≡ false → (a ≡ false) × (b ≡ false)
 both-false true b e = absurd (true≢false e)
 both-false false b e = (refl, e)
@@ -236,7 +178,7 @@ good-marks gs (x ∷ marks) e =
 pub record Faultless (list marks : List ℕ) (room : ℕ) : Type 0 where
   pub space : mostNodes ≤ room
   pub tree : IsTree list
-  pub few : length (groups (tree .tree)) ≤ 8
+  pub few : length (groups (tree .tree)) ≤ mostGroups
   pub some-mark : 0 < length marks
   pub good : Good (groups (tree .tree)) marks
 
@@ -244,16 +186,16 @@ pub faultless : (list marks : List ℕ) (room : ℕ) → fault list marks room �
 unfolding fault
 faultless list marks room h = go (ltb room mostNodes) refl h
   where
-    marks-fault : (t : IsTree list) → (b : Bool) → (eqb (length marks) 0 || badMark (groups (t .tree)) marks) ≡ b → mostNodes ≤ room → length (groups (t .tree)) ≤ 8 → cond {A = ℕ} b 18 0 ≡ 0 → Faultless list marks room
+    marks-fault : (t : IsTree list) → (b : Bool) → (eqb (length marks) 0 || badMark (groups (t .tree)) marks) ≡ b → mostNodes ≤ room → length (groups (t .tree)) ≤ mostGroups → cond {A = ℕ} b 18 0 ≡ 0 → Faultless list marks room
     marks-fault t true e s f q = absurd (omega arith)
     marks-fault t false e s f q =
         let z = both-false (eqb (length marks) 0) (badMark (groups (t .tree)) marks) e in
         record { space = s; tree = t; few = f; some-mark = let n : length marks ≡ 0 → ⊥ = eqb-false (length marks) 0 (z .0) in omega arith; good = good-marks (groups (t .tree)) marks (z .1) }
 
-    groups-fault : (t : IsTree list) → (b : Bool) → ltb 8 (length (groups (t .tree))) ≡ b → mostNodes ≤ room
+    groups-fault : (t : IsTree list) → (b : Bool) → ltb mostGroups (length (groups (t .tree))) ≡ b → mostNodes ≤ room
         → cond {A = ℕ} b 17 (cond {A = ℕ} (eqb (length marks) 0 || badMark (groups (t .tree)) marks) 18 0) ≡ 0 → Faultless list marks room
     groups-fault t true e s q = absurd (omega arith)
-    groups-fault t false e s q = marks-fault t (eqb (length marks) 0 || badMark (groups (t .tree)) marks) refl s (ltb-false 8 (length (groups (t .tree))) e) q
+    groups-fault t false e s q = marks-fault t (eqb (length marks) 0 || badMark (groups (t .tree)) marks) refl s (ltb-false mostGroups (length (groups (t .tree))) e) q
 
     tree-fault : (o : Option Tree) → treeOf list ≡ o → mostNodes ≤ room → treeFault o marks ≡ 0 → Faultless list marks room
     tree-fault none e s q = absurd (omega arith)
@@ -261,7 +203,7 @@ faultless list marks room h = go (ltb room mostNodes) refl h
         let T = tree-of-sound list t e in
         let k : some t ≡ some (T .tree) = sym e ∙ T .is in
         let u : t ≡ T .tree = cc in
-        groups-fault T (ltb 8 (length (groups (T .tree)))) refl s (subst (λ (x : Tree). groupsFault (groups x) marks ≡ 0) u q)
+        groups-fault T (ltb mostGroups (length (groups (T .tree)))) refl s (subst (λ (x : Tree). groupsFault (groups x) marks ≡ 0) u q)
 
     go : (b : Bool) → ltb room mostNodes ≡ b → cond {A = ℕ} b 11 (treeFault (treeOf list) marks) ≡ 0 → Faultless list marks room
     go true e q = absurd (omega arith)
@@ -279,20 +221,11 @@ leaves-marks : (marks : List ℕ) → ((g : ℕ) → isIn marks g ≡ true → i
 unfolding leavesIn
 leaves-marks [] h = refl
 leaves-marks (x ∷ marks) h =
-    let l : x < 65001 = below x (h x (in-first x marks)) in
-    rw (lt-ltb x (sign union) l) (ap (λ (ys : List ℕ). x ∷ ys) (leaves-marks marks (λ g e. h g (in-rest x g marks e))))
+    let l : x < 65001 = below x (h x (is-in-here x marks)) in
+    rw (lt-ltb x (sign union) l) (ap (λ (ys : List ℕ). x ∷ ys) (leaves-marks marks (λ g e. h g (in-later x marks g e))))
   where
     below : (x : ℕ) → isGroup x ≡ true → x < 65001
     below x e = omega (arith, group-most x (subst (λ (b : Bool). lib.Dec.T b) (sym e) tt))
-
-collect-distinct : (xs ys : List ℕ) → Distinct (xs ++ ys) → collect xs ys ≡ xs ++ ys
-unfolding collect
-collect-distinct xs [] d = sym (append-nil xs)
-collect-distinct xs (y ∷ ys) d =
-    let out : isIn xs y ≡ false = distinct-split xs (y ∷ ys) d .apart y (in-first y ys) in
-    ap (λ (b : Bool). collect (cond b xs (xs ++ (y ∷ []))) ys) out
-    ∙ collect-distinct (xs ++ (y ∷ [])) ys (subst Distinct (sym (append-assoc xs (y ∷ []) ys)) d)
-    ∙ append-assoc xs (y ∷ []) ys
 
 module _ {list marks : List ℕ} {room : ℕ} (f : Faultless list marks room) where
   t₀ : Tree
@@ -300,22 +233,22 @@ module _ {list marks : List ℕ} {room : ℕ} (f : Faultless list marks room) wh
 
   mark-groups : (g : ℕ) → isIn marks g ≡ true → isGroup g ≡ true
   unfolding t₀
-  mark-groups g e = leaves-groups t₀ g (sym (in-groups t₀ g) ∙ f .good .known g e)
+  mark-groups g e = leaves-groups t₀ g (sym (groups-leaves t₀ g) ∙ f .good .known g e)
 
   -- the marks, collected
   pub marks-collected : collect [] (leavesIn marks) ≡ marks
   marks-collected = ap (collect []) (leaves-marks marks mark-groups) ∙ collect-distinct [] marks (f .good .distinct)
 
-  marks-few : length marks ≤ 8
+  marks-few : length marks ≤ mostGroups
   unfolding t₀
-  marks-few = omega (arith, no-more marks (groups t₀) (f .good .distinct) (f .good .known), f .few)
+  marks-few = omega (arith, distinct-most marks (groups t₀) (f .good .distinct) (f .good .known), f .few)
 
-  pub first-count : (found : List ℕ) (count : ℕ) → Collected (collect [] (leavesIn marks)) found count → count ≤ 8
-  first-count found count c = go (ltb 8 count) refl
+  pub first-count : (found : List ℕ) (count : ℕ) → Collected (collect [] (leavesIn marks)) found count → count ≤ mostGroups
+  first-count found count c = go (ltb mostGroups count) refl
     where
-      go : (b : Bool) → ltb 8 count ≡ b → count ≤ 8
-      go true e = absurd (omega (arith, c .more (ltb-true 8 count e), ap length marks-collected, marks-few))
-      go false e = ltb-false 8 count e
+      go : (b : Bool) → ltb mostGroups count ≡ b → count ≤ mostGroups
+      go true e = absurd (omega (arith, c .more (ltb-true mostGroups count e), ap length marks-collected, marks-few))
+      go false e = ltb-false mostGroups count e
 
   -- all groups, the marks first
   all : List ℕ
@@ -332,20 +265,20 @@ module _ {list marks : List ℕ} {room : ℕ} (f : Faultless list marks room) wh
 
   all-own : (g : ℕ) → isIn all g ≡ true → isIn (groups t₀) g ≡ true
   unfolding t₀ all
-  all-own g e = or-cases (isIn marks g) (isIn (leaves t₀) g) (sym (in-collect marks (leaves t₀) g) ∙ e) (λ q. f .good .known g q) (λ q. in-groups t₀ g ∙ q)
+  all-own g e = or-cases (isIn marks g) (isIn (leaves t₀) g) (sym (in-collect marks (leaves t₀) g) ∙ e) (λ q. f .good .known g q) (λ q. groups-leaves t₀ g ∙ q)
 
-  all-few : length all ≤ 8
+  all-few : length all ≤ mostGroups
   unfolding t₀
-  all-few = omega (arith, no-more all (groups t₀) all-distinct all-own, f .few)
+  all-few = omega (arith, distinct-most all (groups t₀) all-distinct all-own, f .few)
 
   module _ (found₁ : List ℕ) (count₁ : ℕ) (c₁ : Collected (collect [] (leavesIn marks)) found₁ count₁)
       (found : List ℕ) (count : ℕ) (c : Collected (collect (take count₁ found₁) (leavesIn list)) found count) where
-    pub all-count : count ≤ 8
-    all-count = go (ltb 8 count) refl
+    pub all-count : count ≤ mostGroups
+    all-count = go (ltb mostGroups count) refl
       where
-        go : (b : Bool) → ltb 8 count ≡ b → count ≤ 8
-        go true e = absurd (omega (arith, c .more (ltb-true 8 count e), ap length (all-is found₁ count₁ c₁), all-few))
-        go false e = ltb-false 8 count e
+        go : (b : Bool) → ltb mostGroups count ≡ b → count ≤ mostGroups
+        go true e = absurd (omega (arith, c .more (ltb-true mostGroups count e), ap length (all-is found₁ count₁ c₁), all-few))
+        go false e = ltb-false mostGroups count e
 
     all-found : take count found ≡ all
     all-found = c .fits all-count ∙ all-is found₁ count₁ c₁
@@ -369,14 +302,14 @@ module _ {list marks : List ℕ} {room : ℕ} (f : Faultless list marks room) wh
     ordered n =
         let rest = collect-begins marks (leaves t₀) .0 in
         let S = distinct-split marks rest (subst Distinct begins all-distinct) in
-        let in-all : (g : ℕ) → isIn rest g ≡ true → isIn all g ≡ true = λ g e. ap (λ (xs : List ℕ). isIn xs g) begins ∙ is-in-append marks rest g ∙ or-right (isIn marks g) (isIn rest g) e in
+        let in-all : (g : ℕ) → isIn rest g ≡ true → isIn all g ≡ true = λ g e. ap (λ (xs : List ℕ). isIn xs g) begins ∙ in-right marks rest g e in
         let P : Parts (isIn marks) marks rest = record {
           marks = S .first;
           others = S .second;
           marked = λ g e. e;
           unmarked = S .apart;
           mark-groups = mark-groups;
-          other-groups = λ g e. leaves-groups t₀ g (sym (in-groups t₀ g) ∙ all-own g (in-all g e));
+          other-groups = λ g e. leaves-groups t₀ g (sym (groups-leaves t₀ g) ∙ all-own g (in-all g e));
           some-mark = f .some-mark;
         } in
         record {

@@ -1,6 +1,6 @@
 -- What gathering answers and leaves: the contract of `gather`.
 use mathlib.Core.Path.{_≡_}
-use mathlib.Core.Bool.{Bool, true, false, not, cond, _||_}
+use mathlib.Core.Bool.{Bool, false, not, cond, _||_}
 use mathlib.Core.List.{List, [], _∷_}
 use mathlib.Core.Option.{Option, some, none}
 use Prim.Native.Nat.{ℕ, _≤_}
@@ -9,8 +9,8 @@ use lib.ListN.{length}
 use Rattle.tree.specs.Tree.{Tree, postfix, size, mostNodes, Over, Equivalent, isIn, groups}
 use Rattle.tree.specs.Parse.{treeOf}
 use Rattle.tree.specs.Writing.{over}
+use Rattle.table.specs.Table.{mostGroups}
 use Rattle.gather.specs.Gathering.{Gathered, CannotBeGathered}
-use Rattle.gather.specs.Table.{mostGroups}
 use Rattle.gather.specs.declared.Gathering.{Gathering}
 use Rattle.gather.specs.declared.Gathering.the-variants.{Done, Refused}
 

@@ -1,25 +1,26 @@
 // Gathering: a tree with the marked groups under one node, or the proof that no tree has them so.
 ghost use mathlib.Core.Path.{_≡_};
-ghost use mathlib.Core.Bool.{Bool, true, false, not, _||_};
-ghost use mathlib.Core.List.{List, [], _∷_, _++_};
-ghost use mathlib.Core.Option.{some, none};
-ghost use Prim.Native.Nat.{ℕ, _+_, _-_, _*_, _%_, _^_, _<_, _≤_};
+ghost use mathlib.Core.Bool.{_||_};
+ghost use mathlib.Core.List.{List, []};
+ghost use mathlib.Core.Option.{some};
+ghost use Prim.Native.Nat.{ℕ, _≤_};
 ghost use lib.Dec.{eqb};
-ghost use lib.ListN.{length, getD, take, drop};
-ghost use Rattle.tree.specs.Tree.{Tree, union, difference, sign, postfix, size, apply, isIn, collect, groups, mostNodes};
+ghost use lib.ListN.{length, take};
+ghost use Rattle.tree.specs.Tree.{Tree, postfix, isIn, collect, mostNodes};
 ghost use Rattle.tree.specs.Parse.{treeOf};
-ghost use Rattle.tree.specs.Writing.{Wrote};
+ghost use Rattle.table.specs.Table.{rowCount, mostGroups, rowsOf, Listed};
+ghost use Rattle.columns.specs.Inner.{Room, ReadyFor};
 ghost use Rattle.gather.specs.Gathering.{Gathered};
-ghost use Rattle.gather.specs.Table.{filling, valueAt, table};
-ghost use Rattle.gather.specs.Building.{sizeOptional, join, expand, within, formOf, opening, outer, closing, between, mostExpanded, varies, removedTree, removedHolder, keptTree, keptHolder, nestedTree, nestedHolder, columnsTree, columnsHolder, constantTree, constantHolder};
-ghost use Rattle.gather.specs.Choosing.{agrees, failing, settled, choice};
 ghost use Rattle.gather.specs.Holding.{merged, statusOf, status};
-ghost use Rattle.gather.specs.Inner.{rowsOf, operatorOf, leavesIn, Listed, Collected, Segment, Emitted, Scanned, Room, Some, Ready, ReadyFor, Joined, BuiltFor, Ordered};
+ghost use Rattle.gather.specs.Inner.{leavesIn, Collected, BuiltFor, Ordered};
 ghost use Rattle.gather.specs.Answer.{badMark, fault, GathersTree, Gathers};
-
-const MOST_GROUPS: usize = 8;
-
-const ROWS: usize = 256;
+use columns::Choice;
+use columns::build_columns;
+use columns::build_constant;
+use columns::choose;
+use columns::power;
+use table::MOST_GROUPS;
+use table::ROWS;
 
 const SHORT_BUFFER: u16 = 11;
 
@@ -35,260 +36,6 @@ const CANNOT_BE_GATHERED: u16 = 19;
 pub enum Gathering {
     Done { length: usize, holder: usize },
     Refused(u16),
-}
-
-// ---- writing
-
-// Writes one, two or three numbers at an index, and returns the index after them.
-fn put1(out: &mut [u16], at: usize, x: u16) -> usize
-    requires { ⌜ at + 1 ≤ length (now out) ⌝ }
-    ensures { λ r. ⌜ Wrote (now (out .entry)) at (now (out .exit)) r (x ∷ []) ⌝ }
-{
-    out[at] = x;
-    at + 1
-}
-
-fn put2(out: &mut [u16], at: usize, x: u16, y: u16) -> usize
-    requires { ⌜ at + 2 ≤ length (now out) ⌝ }
-    ensures { λ r. ⌜ Wrote (now (out .entry)) at (now (out .exit)) r (x ∷ y ∷ []) ⌝ }
-{
-    let a = put1(out, at, x);
-    put1(out, a, y)
-}
-
-fn put3(out: &mut [u16], at: usize, x: u16, y: u16, z: u16) -> usize
-    requires { ⌜ at + 3 ≤ length (now out) ⌝ }
-    ensures { λ r. ⌜ Wrote (now (out .entry)) at (now (out .exit)) r (x ∷ y ∷ z ∷ []) ⌝ }
-{
-    let a = put2(out, at, x, y);
-    put1(out, a, z)
-}
-
-// Writes an operator after its operands, which stand from `from` and from `middle` on; nothing where one of them is empty.
-fn operate(out: &mut [u16], from: usize, middle: usize, to: usize, operator: u16) -> usize
-    requires { ⌜ to + 1 ≤ length (now out) ⌝ }
-    ensures { λ r. ⌜ Wrote (now (out .entry)) to (now (out .exit)) r (between from middle to operator) ⌝ }
-{
-    if from == middle {
-        return to;
-    }
-    if middle == to {
-        return to;
-    }
-    put1(out, to, operator)
-}
-
-// ---- the builder: the expansion of a table, one group at a time
-
-// How a group x is joined to what its lower half L selects outside x and its upper half H inside x:
-// L; L - (x - H); (L U x) - (x - H); L U (x - H'); (L - x) U (x - H') with H' the complement of H.
-pub enum Form {
-    Lower,
-    Less,
-    JoinedLess,
-    Plus,
-    ReducedPlus,
-}
-
-// Whether, of `count` rows from `a` on and as many from `b` on, the second differs from `base` wherever the first does.
-fn within(t: &[bool; 256], base: bool, a: usize, b: usize, step: usize, count: usize) -> bool
-    requires { ⌜ (step < 512) × (a + step * count < 256 + step) × (b + step * count < 256 + step) ⌝ }
-    ensures { λ r. ⌜ r ≡ within (rowsOf (now (t .entry))) base a b step count ⌝ }
-{
-    let mut i = a;
-    let mut j = b;
-    let mut left = count;
-    while 0 < left {
-        let x = t[i];
-        let y = t[j];
-        if (x != base) & (y == base) {
-            return false;
-        }
-        i += step;
-        j += step;
-        left -= 1;
-    }
-    true
-}
-
-// The form for a group, by its lower half's rows from `off` on and its upper half's from `one` on.
-fn plan(t: &[bool; 256], off: usize, one: usize, step: usize, count: usize) -> Form
-    requires { ⌜ (step < 512) × (off + step * count < 256 + step) × (one + step * count < 256 + step) × (off < 256) × (one < 256) ⌝ }
-    ensures { λ r. ⌜ r ≡ formOf (rowsOf (now (t .entry))) off one step count ⌝ }
-{
-    let base = t[off];
-    let first = t[one];
-    let up = within(t, base, off, one, step, count);
-    if first != base {
-        if up {
-            return Form::Plus;
-        }
-        return Form::ReducedPlus;
-    }
-    let down = within(t, base, one, off, step, count);
-    if down {
-        if up {
-            return Form::Lower;
-        }
-        return Form::Less;
-    }
-    Form::JoinedLess
-}
-
-// Writes what a form has between the lower half, which stands from `from` to `at`, and the upper half.
-fn write_opening(out: &mut [u16], from: usize, at: usize, x: u16, form: Form) -> usize
-    requires { ⌜ at + 3 ≤ length (now out) ⌝ }
-    ensures { λ r. ⌜ Wrote (now (out .entry)) at (now (out .exit)) r (opening form (eqb from at) x) ⌝ }
-{
-    match form {
-        Form::Lower => at,
-        Form::Less => {
-            if from == at {
-                return at;
-            }
-            put1(out, at, x)
-        }
-        Form::JoinedLess => {
-            if from == at {
-                return put2(out, at, x, x);
-            }
-            put3(out, at, x, tree::UNION, x)
-        }
-        Form::Plus => put1(out, at, x),
-        Form::ReducedPlus => {
-            if from == at {
-                return put1(out, at, x);
-            }
-            put3(out, at, x, tree::DIFFERENCE, x)
-        }
-    }
-}
-
-// The operator that a form ends with.
-fn outer(form: Form) -> u16
-    ensures { λ r. ⌜ r ≡ sign (outer form) ⌝ }
-{
-    match form {
-        Form::Lower => tree::UNION,
-        Form::Less => tree::DIFFERENCE,
-        Form::JoinedLess => tree::DIFFERENCE,
-        Form::Plus => tree::UNION,
-        Form::ReducedPlus => tree::UNION,
-    }
-}
-
-// Writes what a form has after the upper half, which stands from `upper` to `to` behind its group.
-fn write_closing(out: &mut [u16], from: usize, upper: usize, to: usize, form: Form) -> usize
-    requires { ⌜ (1 ≤ upper) × (to + 2 ≤ length (now out)) ⌝ }
-    ensures { λ r. ⌜ Wrote (now (out .entry)) to (now (out .exit)) r (closing form from upper to) ⌝ }
-{
-    let group = upper - 1;
-    let inner = operate(out, group, upper, to, tree::DIFFERENCE);
-    let last = outer(form);
-    operate(out, from, group, inner, last)
-}
-
-// Writes the tree of the rows off, off + step, .. over the groups from j on.
-fn emit(
-    t: &[bool; 256],
-    off: usize,
-    step: usize,
-    rows: usize,
-    groups: &[u16],
-    j: usize,
-    out: &mut [u16],
-    at: usize,
-) -> usize
-    requires { ⌜ Segment (now groups) j off step rows ⌝ }
-    requires { ⌜ at + mostExpanded (length (drop j (now groups))) ≤ length (now out) ⌝ }
-    ensures { λ r. ⌜ Emitted (now (t .entry)) off step (drop j (now (groups .entry))) (now (out .entry)) at (now (out .exit)) r ⌝ }
-{
-    if j == groups.len() {
-        return at;
-    }
-    let x = groups[j];
-    let next = j + 1;
-    let one = off + step;
-    let twice = step + step;
-    let half = rows / 2;
-    let form = plan(t, off, one, twice, half);
-    let lower = emit(t, off, twice, half, groups, next, out, at);
-    let upper = write_opening(out, at, lower, x, form);
-    if upper == lower {
-        return lower;
-    }
-    let to = emit(t, one, twice, half, groups, next, out, upper);
-    write_closing(out, at, upper, to, form)
-}
-
-// ---- the truth table
-
-// Whether the group is in at this row.
-fn in_row(groups: &[u16], row: usize, g: u16) -> bool
-    ensures { λ r. ⌜ r ≡ filling (now (groups .entry)) row g ⌝ }
-{
-    let mut bits = row;
-    let mut i = 0;
-    while i < groups.len() {
-        if g == groups[i] {
-            return bits % 2 == 1;
-        }
-        bits = bits / 2;
-        i += 1;
-    }
-    false
-}
-
-// What the operator x makes of its operands' values.
-fn combine(x: u16, a: bool, b: bool) -> bool
-    ensures { λ r. ⌜ r ≡ apply (operatorOf x) a b ⌝ }
-{
-    if x == tree::UNION {
-        return a | b;
-    }
-    a & !b
-}
-
-// The tree's value at a row.
-fn eval(list: &[u16], groups: &[u16], row: usize) -> bool
-    requires { ⌜ Listed (now list) ⌝ }
-    ensures { λ r. ⌜ ((t : Tree) → now (list .entry) ≡ postfix t → r ≡ valueAt (now (groups .entry)) t row) ⌝ }
-{
-    let mut stack = [false; 8191];
-    let mut top: usize = 0;
-    let mut i = 0;
-    while i < list.len() {
-        let x = list[i];
-        if x < tree::UNION {
-            let value = in_row(groups, row, x);
-            stack[top] = value;
-            top += 1;
-            i += 1;
-        } else {
-            let b = stack[top - 1];
-            let a = stack[top - 2];
-            let value = combine(x, a, b);
-            stack[top - 2] = value;
-            top -= 1;
-            i += 1;
-        }
-    }
-    stack[0]
-}
-
-// The tree's truth table: "[false; 256] filled by evaluating the tree once for each row".
-fn table(list: &[u16], groups: &[u16]) -> [bool; 256]
-    requires { ⌜ Listed (now list) ⌝ }
-    ensures { λ r. ⌜ ((t : Tree) → now (list .entry) ≡ postfix t → r ≡ table (now (groups .entry)) t) ⌝ }
-{
-    let mut rows = [false; 256];
-    let mut row = 0;
-    while row < ROWS {
-        let value = eval(list, groups, row);
-        rows[row] = value;
-        row += 1;
-    }
-    rows
 }
 
 // ---- is the tree gathered already
@@ -356,7 +103,7 @@ fn holding(list: &[u16], marks: &[u16]) -> Status
     requires { ⌜ Listed (now list) ⌝ }
     ensures { λ r. ⌜ ((t : Tree) → now (list .entry) ≡ postfix t → r ≡ status (isIn (now (marks .entry))) 0 t) ⌝ }
 {
-    let mut stack = [Status::Free; 8191];
+    let mut stack = [Status::Free; tree::MOST_NODES];
     let mut top: usize = 0;
     let mut i = 0;
     while i < list.len() {
@@ -380,15 +127,18 @@ fn holding(list: &[u16], marks: &[u16]) -> Status
 
 // ---- the groups and the marks
 
-// Up to eight different groups; a count of 9 stands for more.
+// More groups than there may be.
+const TOO_MANY: usize = MOST_GROUPS + 1;
+
+// Up to eight different groups; a count of `TOO_MANY` stands for more.
 pub struct Groups {
-    list: [u16; 8],
+    list: [u16; MOST_GROUPS],
     count: usize,
 }
 
 // Adds the groups of a list, each where it is not there yet, in their order.
 fn add_groups(known: Groups, list: &[u16]) -> Groups
-    requires { ⌜ known .count ≤ 8 ⌝ }
+    requires { ⌜ known .count ≤ mostGroups ⌝ }
     ensures { λ r. ⌜ Collected (collect (take (known .count) (known .list)) (leavesIn (now (list .entry)))) (r .list) (r .count) ⌝ }
 {
     let mut found = known.list;
@@ -404,7 +154,7 @@ fn add_groups(known: Groups, list: &[u16]) -> Groups
                 if count == MOST_GROUPS {
                     return Groups {
                         list: found,
-                        count: 9,
+                        count: TOO_MANY,
                     };
                 }
                 found[count] = x;
@@ -449,7 +199,7 @@ fn fault_of(list: &[u16], marks: &[u16], room: usize) -> u16
     let good = tree::is_tree(list);
     if good {
         let nothing = Groups {
-            list: [0; 8],
+            list: [0; MOST_GROUPS],
             count: 0,
         };
         let all = add_groups(nothing, list);
@@ -467,264 +217,11 @@ fn fault_of(list: &[u16], marks: &[u16], room: usize) -> u16
     NO_TREE
 }
 
-// ---- the columns
-
-// 2 to the power k.
-fn power(k: usize) -> usize
-    requires { ⌜ k ≤ 8 ⌝ }
-    ensures { λ r. ⌜ r ≡ 2 ^ k ⌝ }
-{
-    let mut s: usize = 1;
-    let mut i = 0;
-    while i < k {
-        s = s + s;
-        i += 1;
-    }
-    s
-}
-
-// What the columns allow: no tree; the tree for constant columns; the tree by the columns' rows `low` and `high` and the
-// column that starts at row `start`.
-pub enum Choice {
-    Never,
-    Constant,
-    Columns {
-        low: usize,
-        high: usize,
-        start: usize,
-    },
-}
-
-// Whether the value at row i is that of its column's rows `low` and `high` and of the column at `start`.
-fn agrees_at(t: &[bool; 256], w: usize, low: usize, high: usize, start: usize, i: usize) -> bool
-    requires { ⌜ (0 < w) × (i < 256) × (i - i % w + low < 256) × (i - i % w + high < 256) × (start + i % w < 256) ⌝ }
-    ensures { λ r. ⌜ r ≡ agrees (rowsOf (now (t .entry))) w low high start i ⌝ }
-{
-    let p = i % w;
-    let base = i - p;
-    let always = t[base + low];
-    let sometimes = t[base + high];
-    let held = t[start + p];
-    let here = t[i];
-    here == (always | (sometimes & held))
-}
-
-// The first row that does not agree; `total` if all do.
-fn first_failing(
-    t: &[bool; 256],
-    w: usize,
-    total: usize,
-    low: usize,
-    high: usize,
-    start: usize,
-) -> usize
-    requires { ⌜ Scanned w total low high start ⌝ }
-    ensures { λ r. ⌜ (r ≡ failing (rowsOf (now (t .entry))) w total low high start) × (r ≤ total) ⌝ }
-{
-    let mut i = 0;
-    while i < total {
-        let good = agrees_at(t, w, low, high, start, i);
-        if good {
-            i += 1;
-        } else {
-            return i;
-        }
-    }
-    i
-}
-
-// With a column that is not constant: every row agrees with it, or no tree is gathered.
-fn settle(t: &[bool; 256], w: usize, total: usize, low: usize, high: usize, start: usize) -> Choice
-    requires { ⌜ Scanned w total low high start ⌝ }
-    ensures { λ r. ⌜ r ≡ settled (rowsOf (now (t .entry))) w total low high start ⌝ }
-{
-    let i = first_failing(t, w, total, low, high, start);
-    if i < total {
-        return Choice::Never;
-    }
-    Choice::Columns { low, high, start }
-}
-
-// The columns to build by: the first scan finds a column that is not constant.
-fn choose(t: &[bool; 256], w: usize, total: usize) -> Choice
-    requires { ⌜ Scanned w total 0 0 0 ⌝ }
-    ensures { λ r. ⌜ r ≡ choice (rowsOf (now (t .entry))) w total ⌝ }
-{
-    let i = first_failing(t, w, total, 0, 0, 0);
-    if i < total {
-        let p = i % w;
-        let start = i - p;
-        let value = t[i];
-        if value {
-            return settle(t, w, total, 0, p, start);
-        }
-        return settle(t, w, total, p, 0, start);
-    }
-    Choice::Constant
-}
-
-// ---- the gathered tree
-
-// A tree's length, and its holder's position.
-pub struct Built {
-    length: usize,
-    holder: usize,
-}
-
-// All columns are constant: A U (m - m).
-fn build_constant(
-    t: &[bool; 256],
-    marks: &[u16],
-    others: &[u16],
-    w: usize,
-    columns: usize,
-    out: &mut [u16],
-) -> Built
-    requires { ⌜ Room (now marks) (now others) w columns 0 0 0 (length (now out)) ⌝ }
-    ensures { λ r. ⌜ Joined (constantTree (rowsOf (now (t .entry))) (now (marks .entry)) (now (others .entry))) (constantHolder (rowsOf (now (t .entry))) (now (marks .entry)) (now (others .entry))) (now (out .entry)) (now (out .exit)) (r .length) (r .holder) ⌝ }
-{
-    let a = emit(t, 0, w, columns, others, 0, out, 0);
-    let m = marks[0];
-    let h = put3(out, a, m, m, tree::DIFFERENCE);
-    let length = operate(out, 0, a, h, tree::UNION);
-    Built {
-        length,
-        holder: h - 1,
-    }
-}
-
-// A U (B - h), h the complement of the column.
-fn build_removed(
-    t: &[bool; 256],
-    marks: &[u16],
-    others: &[u16],
-    w: usize,
-    columns: usize,
-    low: usize,
-    high: usize,
-    start: usize,
-    out: &mut [u16],
-) -> Built
-    requires { ⌜ Room (now marks) (now others) w columns low high start (length (now out)) ⌝ }
-    requires { ⌜ Some (expand (rowsOf (now t)) high w (now others)) ⌝ }
-    ensures { λ r. ⌜ Joined (removedTree (rowsOf (now (t .entry))) (now (marks .entry)) (now (others .entry)) w low high start) (removedHolder (rowsOf (now (t .entry))) (now (marks .entry)) (now (others .entry)) w low high start) (now (out .entry)) (now (out .exit)) (r .length) (r .holder) ⌝ }
-{
-    let a = emit(t, low, w, columns, others, 0, out, 0);
-    let b = emit(t, high, w, columns, others, 0, out, a);
-    let h = emit(t, start, 1, w, marks, 0, out, b);
-    let inner = operate(out, a, b, h, tree::DIFFERENCE);
-    let length = operate(out, 0, a, inner, tree::UNION);
-    Built {
-        length,
-        holder: h - 1,
-    }
-}
-
-// A U (h - B), B the complement of the columns that are not all false.
-fn build_kept(
-    t: &[bool; 256],
-    marks: &[u16],
-    others: &[u16],
-    w: usize,
-    columns: usize,
-    low: usize,
-    high: usize,
-    start: usize,
-    out: &mut [u16],
-) -> Built
-    requires { ⌜ Room (now marks) (now others) w columns low high start (length (now out)) ⌝ }
-    requires { ⌜ Some (expand (rowsOf (now t)) start 1 (now marks)) ⌝ }
-    ensures { λ r. ⌜ Joined (keptTree (rowsOf (now (t .entry))) (now (marks .entry)) (now (others .entry)) w low high start) (keptHolder (rowsOf (now (t .entry))) (now (marks .entry)) (now (others .entry)) w low high start) (now (out .entry)) (now (out .exit)) (r .length) (r .holder) ⌝ }
-{
-    let a = emit(t, low, w, columns, others, 0, out, 0);
-    let h = emit(t, start, 1, w, marks, 0, out, a);
-    let b = emit(t, high, w, columns, others, 0, out, h);
-    let inner = operate(out, a, h, b, tree::DIFFERENCE);
-    let length = operate(out, 0, a, inner, tree::UNION);
-    Built {
-        length,
-        holder: h - 1,
-    }
-}
-
-// The columns that are not constant, at their rows: true at a row and false at its column's row `low`.
-fn varying(t: &[bool; 256], w: usize, low: usize) -> [bool; 256]
-    requires { ⌜ (0 < w) × (low < w) × ((n : ℕ) × (256 ≡ w * n)) ⌝ }
-    requires { ⌜ length (now t) ≤ 256 ⌝ }
-    ensures { λ r. ⌜ ((i : ℕ) → rowsOf r i ≡ varies (rowsOf (now (t .entry))) w low i) ⌝ }
-{
-    let mut d = [false; 256];
-    let mut i = 0;
-    while i < ROWS {
-        let base = i - i % w;
-        let x = t[i];
-        let y = t[base + low];
-        d[i] = x & !y;
-        i += 1;
-    }
-    d
-}
-
-// B - (D - h), d the table of D.
-fn build_nested(
-    t: &[bool; 256],
-    d: &[bool; 256],
-    marks: &[u16],
-    others: &[u16],
-    w: usize,
-    columns: usize,
-    high: usize,
-    start: usize,
-    out: &mut [u16],
-) -> Built
-    requires { ⌜ Room (now marks) (now others) w columns 0 high start (length (now out)) ⌝ }
-    requires { ⌜ Some (expand (rowsOf (now t)) high w (now others)) ⌝ }
-    requires { ⌜ Some (expand (rowsOf (now d)) high w (now others)) ⌝ }
-    ensures { λ r. ⌜ Joined (nestedTree (rowsOf (now (t .entry))) (now (marks .entry)) (now (others .entry)) (rowsOf (now (d .entry))) w high start) (nestedHolder (rowsOf (now (t .entry))) (now (marks .entry)) (now (others .entry)) (rowsOf (now (d .entry))) w high start) (now (out .entry)) (now (out .exit)) (r .length) (r .holder) ⌝ }
-{
-    let b = emit(t, high, w, columns, others, 0, out, 0);
-    let e = emit(d, high, w, columns, others, 0, out, b);
-    let h = emit(t, start, 1, w, marks, 0, out, e);
-    let inner = operate(out, b, e, h, tree::DIFFERENCE);
-    let length = operate(out, 0, b, inner, tree::DIFFERENCE);
-    Built {
-        length,
-        holder: h - 1,
-    }
-}
-
-// The tree by the columns' rows `low` and `high` and the column at `start`.
-fn build_columns(
-    t: &[bool; 256],
-    marks: &[u16],
-    others: &[u16],
-    w: usize,
-    columns: usize,
-    low: usize,
-    high: usize,
-    start: usize,
-    out: &mut [u16],
-) -> Built
-    requires { ⌜ Room (now marks) (now others) w columns low high start (length (now out)) ⌝ }
-    requires { ⌜ Ready (rowsOf (now t)) (now marks) (now others) w low high start ⌝ }
-    requires { ⌜ length (now t) ≤ 256 ⌝ }
-    ensures { λ r. ⌜ Joined (columnsTree (rowsOf (now (t .entry))) (now (marks .entry)) (now (others .entry)) low high start) (columnsHolder (rowsOf (now (t .entry))) (now (marks .entry)) (now (others .entry)) low high start) (now (out .entry)) (now (out .exit)) (r .length) (r .holder) ⌝ }
-{
-    let held = t[start];
-    if held {
-        return build_removed(t, marks, others, w, columns, low, high, start, out);
-    }
-    let sometimes = t[high];
-    if sometimes {
-        return build_kept(t, marks, others, w, columns, low, high, start, out);
-    }
-    let d = varying(t, w, low);
-    build_nested(t, &d, marks, others, w, columns, high, start, out)
-}
+// ---- the whole
 
 // The tree for a choice, or none.
 fn build(
-    t: &[bool; 256],
+    t: &[bool; ROWS],
     choice: Choice,
     marks: &[u16],
     others: &[u16],
@@ -734,7 +231,7 @@ fn build(
 ) -> Gathering
     requires { ⌜ Room (now marks) (now others) w columns 0 0 0 (length (now out)) ⌝ }
     requires { ⌜ ReadyFor (rowsOf (now t)) (now marks) (now others) w choice ⌝ }
-    requires { ⌜ length (now t) ≤ 256 ⌝ }
+    requires { ⌜ length (now t) ≤ rowCount ⌝ }
     ensures { λ r. ⌜ BuiltFor (rowsOf (now (t .entry))) (now (marks .entry)) (now (others .entry)) choice (now (out .entry)) (now (out .exit)) r ⌝ }
 {
     match choice {
@@ -756,8 +253,6 @@ fn build(
     }
 }
 
-// ---- the whole
-
 // Gathers a tree that is not gathered and whose groups are listed, the m marked ones first.
 fn gather_ordered(list: &[u16], groups: &[u16], m: usize, out: &mut [u16]) -> Gathering
     requires { ⌜ Listed (now list) ⌝ }
@@ -765,7 +260,7 @@ fn gather_ordered(list: &[u16], groups: &[u16], m: usize, out: &mut [u16]) -> Ga
     requires { ⌜ mostNodes ≤ length (now out) ⌝ }
     ensures { λ r. ⌜ ((t : Tree) → now (list .entry) ≡ postfix t → GathersTree t (take m (now (groups .entry))) (now (out .entry)) (now (out .exit)) r) ⌝ }
 {
-    let t = table(list, groups);
+    let t = table::table(list, groups);
     let w = power(m);
     let columns = power(groups.len() - m);
     let choice = choose(&t, w, w * columns);
@@ -779,7 +274,7 @@ fn rearrange(list: &[u16], marks: &[u16], out: &mut [u16]) -> Gathering
     ensures { λ r. ⌜ ((t : Tree) → treeOf (now (list .entry)) ≡ some t → GathersTree t (now (marks .entry)) (now (out .entry)) (now (out .exit)) r) ⌝ }
 {
     let nothing = Groups {
-        list: [0; 8],
+        list: [0; MOST_GROUPS],
         count: 0,
     };
     let first = add_groups(nothing, marks);

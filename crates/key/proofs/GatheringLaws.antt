@@ -1,18 +1,17 @@
 -- After reading and after any lifts, gathering meets no fault but 19: the tree has at most 8 different groups, and the marks are
 -- groups of it, each once.
-use mathlib.Core.Path.{_≡_, refl, sym, ap, _∙_}
-use mathlib.Core.Bool.{Bool, true, false, not, _||_}
+use mathlib.Core.Path.{_≡_, refl, sym, _∙_}
+use mathlib.Core.Bool.{true, false}
 use mathlib.Core.List.{List, [], _∷_}
-use Prim.Native.Nat.{ℕ, _≤_, _<_}
+use Prim.Native.Nat.{ℕ, _≤_}
 use native.Mathlib.Omega.{arith}
 use borrow.Author.Tests.{le-ltb, ne-eqb}
-use lib.Dec.{eqb}
 use lib.ListN.{length}
-use Rattle.tree.specs.Tree.{Tree, postfix, size, mostNodes, Over, leaves, isIn, Distinct, groups}
-use Rattle.tree.proofs.TreeLaws.{or-right, over-leaves, leaves-over, over-implies}
-use Rattle.tree.proofs.GroupLaws.{groups-leaves, groups-most, over-groups, is-in-here}
+use Rattle.tree.specs.Tree.{Tree, postfix, size, mostNodes, isIn, Distinct, groups}
+use Rattle.tree.proofs.TreeLaws.{leaves-over}
+use Rattle.tree.proofs.GroupLaws.{groups-leaves, groups-most, over-groups, is-in-here, in-later}
 use Rattle.tree.proofs.ParseLaws.{tree-of-postfix}
-use Rattle.gather.specs.Table.{mostGroups}
+use Rattle.table.specs.Table.{mostGroups}
 use Rattle.gather.specs.Answer.{badMark, fault}
 use Rattle.lift.proofs.LiftLaws.{Keeps}
 use Rattle.key.specs.Inner.{Markable}
@@ -24,10 +23,6 @@ markable-keeps {t} {u} K M = record {
   once = M .once;
   among = λ g e. leaves-over (isIn (groups u)) t (K .over-back (isIn (groups u)) (over-groups u)) g (sym (groups-leaves t g) ∙ M .among g e);
 }
-
-in-later : (x : ℕ) (xs : List ℕ) (z : ℕ) → isIn xs z ≡ true → isIn (x ∷ xs) z ≡ true
-unfolding isIn
-in-later x xs z e = or-right (eqb z x) (isIn xs z) e
 
 no-bad-mark : (gs marks : List ℕ) → Distinct marks → ((g : ℕ) → isIn marks g ≡ true → isIn gs g ≡ true) → badMark gs marks ≡ false
 unfolding badMark Distinct

@@ -9,9 +9,9 @@ use Rattle.tree.specs.Pass.{entryOf, pass}
 use Rattle.tree.specs.Parse.{parse, treeOf, locate}
 use Rattle.lift.specs.Step.{step}
 use Rattle.lift.specs.Lift.{steps, liftOf}
-use Rattle.gather.specs.Table.{filling, tabulate, table}
+use Rattle.table.specs.Table.{filling, tabulate, table}
 use Rattle.gather.specs.Answer.{fault, badMark}
-use Rattle.gather.proofs.TableLaws.{table-law}
+use Rattle.table.proofs.TableLaws.{table-law}
 use Rattle.gather.proofs.GatheringLaws.{fillings-cannot}
 use Rattle.key.specs.Samples.{Samples}
 

@@ -1,15 +1,15 @@
--- Laws of the different groups of a tree: which they are, that each stands once, and that a list of different numbers that all
--- stand in another list is no longer than it.
-use mathlib.Core.Path.{_≡_, refl, sym, ap, _∙_}
+-- Laws of the different groups of a tree: which they are, that each stands once and is a group, that what was collected first comes
+-- first, and that a list of different numbers that all stand in another list is no longer than it.
+use mathlib.Core.Path.{_≡_, refl, sym, ap, subst, _∙_}
 use mathlib.Core.Bool.{Bool, true, false, cond, _||_, true≢false, false≢true}
-use mathlib.Core.List.{List, [], _∷_, _++_}
-use Prim.Native.Nat.{ℕ, suc, _+_, _≤_, _<_}
+use mathlib.Core.List.{List, [], _∷_, _++_, append-assoc, append-nil}
+use Prim.Native.Nat.{ℕ, suc, _+_, _≤_}
 use native.Mathlib.Omega.{arith}
 use borrow.Author.Tests.{eqb-true, eqb-false, eq-eqb, ne-eqb}
-use lib.Dec.{eqb}
+use lib.Dec.{T, eqb}
 use lib.ListN.{length, length-append}
-use Rattle.tree.specs.Tree.{Tree, leaves, isIn, Distinct, withNew, collect, groups, Over}
-use Rattle.tree.proofs.TreeLaws.{is-in-append, over-leaves, leaves-over, over-implies, or-right}
+use Rattle.tree.specs.Tree.{Tree, leaf, node, isGroup, leaves, isIn, Distinct, withNew, collect, groups, Over}
+use Rattle.tree.proofs.TreeLaws.{is-in-append, in-left, in-right, over-leaves, leaves-over, over-implies, or-right, or-cases}
 
 -- ---- membership
 or-false : (x : Bool) → (x || false) ≡ x
@@ -23,6 +23,10 @@ is-in-one y x = or-false (eqb x y)
 pub is-in-here : (x : ℕ) (xs : List ℕ) → isIn (x ∷ xs) x ≡ true
 unfolding isIn
 is-in-here x xs = rw (eq-eqb x x refl)
+
+pub in-later : (x : ℕ) (xs : List ℕ) (z : ℕ) → isIn xs z ≡ true → isIn (x ∷ xs) z ≡ true
+unfolding isIn
+in-later x xs z e = or-right (eqb z x) (isIn xs z) e
 
 -- in a list with one number more at its end
 is-in-end : (xs : List ℕ) (y x : ℕ) → isIn (xs ++ (y ∷ [])) x ≡ (isIn xs x || eqb x y)
@@ -119,10 +123,6 @@ without-other x z (y ∷ ys) n e = go (eqb x y) refl (eqb z y) refl e (without-o
     go false q true r f ih = rw r
     go false q false r f ih = rw r (ih f)
 
-in-later : (x : ℕ) (xs : List ℕ) (z : ℕ) → isIn xs z ≡ true → isIn (x ∷ xs) z ≡ true
-unfolding isIn
-in-later x xs z e = or-right (eqb z x) (isIn xs z) e
-
 -- different numbers that all stand in another list are no more than that list has
 pub distinct-most : (xs ys : List ℕ) → Distinct xs → ((x : ℕ) → isIn xs x ≡ true → isIn ys x ≡ true) → length xs ≤ length ys
 unfolding Distinct
@@ -138,8 +138,68 @@ pub groups-most : (t u : Tree) → Over (isIn (groups t)) u → length (groups u
 groups-most t u o =
     distinct-most (groups u) (groups t) (groups-distinct u) (λ g e. leaves-over (isIn (groups t)) u o g (sym (groups-leaves u g) ∙ e))
 
+-- a tree is over what its leaves are collected into, so over its groups
+pub over-collect : (xs : List ℕ) (t : Tree) → Over (isIn (collect xs (leaves t))) t
+over-collect xs t = over-implies (λ g e. in-collect xs (leaves t) g ∙ or-right (isIn xs g) (isIn (leaves t) g) e) t (over-leaves t)
+
 pub over-groups : (t : Tree) → Over (isIn (groups t)) t
-over-groups t = go (over-leaves t)
+over-groups t = over-collect [] t
+
+-- they are groups
+pub over-is-group : (t : Tree) → Over isGroup t
+unfolding Over
+over-is-group (leaf g h) = holds (isGroup g) h
   where
-    go : Over (isIn (leaves t)) t → Over (isIn (groups t)) t
-    go o = over-implies (λ g e. groups-leaves t g ∙ e) t o
+    holds : (b : Bool) → T b → b ≡ true
+    holds true h = refl
+    holds false h = absurd h
+over-is-group (node o l r) = (over-is-group l, over-is-group r)
+
+pub leaves-groups : (t : Tree) (g : ℕ) → isIn (leaves t) g ≡ true → isGroup g ≡ true
+leaves-groups t = leaves-over isGroup t (over-is-group t)
+
+-- ---- what was there comes first
+pub collect-begins : (xs ys : List ℕ) → (rest : List ℕ) × (collect xs ys ≡ xs ++ rest)
+unfolding collect
+collect-begins xs [] = ([], sym (append-nil xs))
+collect-begins xs (y ∷ ys) = go (isIn xs y) (collect-begins xs ys) (collect-begins (xs ++ (y ∷ [])) ys)
+  where
+    go : (b : Bool) → (rest : List ℕ) × (collect xs ys ≡ xs ++ rest) → (rest : List ℕ) × (collect (xs ++ (y ∷ [])) ys ≡ (xs ++ (y ∷ [])) ++ rest)
+        → (rest : List ℕ) × (collect (cond b xs (xs ++ (y ∷ []))) ys ≡ xs ++ rest)
+    go true p q = p
+    go false p q = (y ∷ q .0, q .1 ∙ append-assoc xs (y ∷ []) (q .0))
+
+pub collect-longer : (xs ys : List ℕ) → length xs ≤ length (collect xs ys)
+collect-longer xs ys = let b = collect-begins xs ys in omega (arith, ap length (b .1), length-append xs (b .0))
+
+-- ---- two lists that together hold nothing twice
+pub record Split (xs ys : List ℕ) : Type 0 where
+  pub first : Distinct xs
+  pub second : Distinct ys
+  pub apart : (g : ℕ) → isIn ys g ≡ true → isIn xs g ≡ false
+
+not-in : (b : Bool) → (b ≡ true → ⊥) → b ≡ false
+not-in true h = absurd (h refl)
+not-in false h = refl
+
+pub distinct-split : (xs ys : List ℕ) → Distinct (xs ++ ys) → Split xs ys
+unfolding Distinct isIn
+distinct-split [] ys d = record { first = tt; second = d; apart = λ g e. refl }
+distinct-split (x ∷ xs) ys d =
+    let S = distinct-split xs ys (d .1) in
+    record {
+      first = (not-in _ (λ e. true≢false (sym (in-left xs ys x e) ∙ d .0)), S .first);
+      second = S .second;
+      apart = λ g e. not-in _ (λ q. or-cases (eqb g x) (isIn xs g) q
+          (λ r. true≢false (sym (in-right xs ys x (ap (isIn ys) (sym (eqb-true g x r)) ∙ e)) ∙ d .0))
+          (λ r. true≢false (sym r ∙ S .apart g e)));
+    }
+
+pub collect-distinct : (xs ys : List ℕ) → Distinct (xs ++ ys) → collect xs ys ≡ xs ++ ys
+unfolding collect
+collect-distinct xs [] d = sym (append-nil xs)
+collect-distinct xs (y ∷ ys) d =
+    let out : isIn xs y ≡ false = distinct-split xs (y ∷ ys) d .apart y (is-in-here y ys) in
+    ap (λ (b : Bool). collect (cond b xs (xs ++ (y ∷ []))) ys) out
+    ∙ collect-distinct (xs ++ (y ∷ [])) ys (subst Distinct (sym (append-assoc xs (y ∷ []) ys)) d)
+    ∙ append-assoc xs (y ∷ []) ys

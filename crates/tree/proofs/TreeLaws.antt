@@ -85,6 +85,10 @@ pub or-right : (x y : Bool) → y ≡ true → (x || y) ≡ true
 or-right true y e = refl
 or-right false y e = e
 
+pub or-cases : (x y : Bool) {A : Type 0} → (x || y) ≡ true → (x ≡ true → A) → (y ≡ true → A) → A
+or-cases true y e f g = f refl
+or-cases false y e f g = g e
+
 pub is-in-append : (xs ys : List ℕ) (x : ℕ) → isIn (xs ++ ys) x ≡ (isIn xs x || isIn ys x)
 unfolding isIn
 is-in-append [] ys x = refl
@@ -94,13 +98,19 @@ is-in-append (z ∷ xs) ys x = rw (is-in-append xs ys x) (or-assoc (eqb x z) (is
     or-assoc true b c = refl
     or-assoc false b c = refl
 
+pub in-left : (xs ys : List ℕ) (x : ℕ) → isIn xs x ≡ true → isIn (xs ++ ys) x ≡ true
+in-left xs ys x e = is-in-append xs ys x ∙ ap (λ (b : Bool). b || isIn ys x) e
+
+pub in-right : (xs ys : List ℕ) (x : ℕ) → isIn ys x ≡ true → isIn (xs ++ ys) x ≡ true
+in-right xs ys x e = is-in-append xs ys x ∙ or-right (isIn xs x) (isIn ys x) e
+
 -- every leaf's group is among the tree's leaves
 over-leaves-of : (t : Tree) (m : ℕ → Bool) → ((g : ℕ) → isIn (leaves t) g ≡ true → m g ≡ true) → Over m t
 unfolding Over leaves isIn
 over-leaves-of (leaf g h) m f = f g (rw (eq-eqb g g refl))
 over-leaves-of (node o l r) m f = (
-  over-leaves-of l m (λ g e. f g (is-in-append (leaves l) (leaves r) g ∙ rw e)),
-  over-leaves-of r m (λ g e. f g (is-in-append (leaves l) (leaves r) g ∙ or-right (isIn (leaves l) g) (isIn (leaves r) g) e)),
+  over-leaves-of l m (λ g e. f g (in-left (leaves l) (leaves r) g e)),
+  over-leaves-of r m (λ g e. f g (in-right (leaves l) (leaves r) g e)),
 )
 
 pub over-leaves : (t : Tree) → Over (isIn (leaves t)) t

@@ -13,19 +13,33 @@ is-tree-requires : tie.Need-is-tree-requires
 is-tree-requires c κs = search needs
 
 note-nodes-requires : tie.Need-note-nodes-requires
-note-nodes-requires c κs = (sym (c .before .before .before .is-tree .ensures) ∙ c .before .before .if2 .taken, refl, refl)
+note-nodes-requires c κs =
+    let is-tree = c .before .before .before .is-tree in
+    (sym (is-tree .ensures) ∙ c .before .before .if2 .taken, refl, refl)
 
 sub-write-node : tie.Need-sub-write-node
-sub-write-node c = tree-some _ (sym (c .before .before .before .before .before .before .is-tree .ensures) ∙ c .before .before .before .before .before .if2 .taken)
+sub-write-node c =
+    let is-tree = c .before .before .before .before .before .before .is-tree in
+    let if2 = c .before .before .before .before .before .if2 in
+    tree-some _ (sym (is-tree .ensures) ∙ if2 .taken)
 
 write-node-requires : tie.Need-write-node-requires
-write-node-requires c κs = root-writable _ _ _ _ (sym (c .before .before .before .before .before .before .before .is-tree .ensures) ∙ c .before .before .before .before .before .before .if2 .taken) (c .before .before .before .note-nodes .ensures) (c .before .before .before .before .before .before .before .before .if1 .left)
+write-node-requires c κs =
+    let if1 = c .before .before .before .before .before .before .before .before .if1 in
+    let is-tree = c .before .before .before .before .before .before .before .is-tree in
+    let if2 = c .before .before .before .before .before .before .if2 in
+    let note-nodes = c .before .before .before .note-nodes in
+    root-writable _ _ _ _ (sym (is-tree .ensures) ∙ if2 .taken) (note-nodes .ensures) (if1 .left)
 
 same-length : tie.Need-same-length
 same-length c = search needs
 
 returns-2 : tie.Need-returns-2
-returns-2 c = all-written _ _ (c .before .before .before .before .before .before .before .before .before .before .before .if1 .left) (sym (c .before .before .before .before .before .before .before .before .before .before .is-tree .ensures) ∙ c .before .before .before .before .before .before .before .before .before .if2 .taken) (c .before .before .write-node .ensures)
+returns-2 c =
+    let if1 = c .before .before .before .before .before .before .before .before .before .before .before .if1 in
+    let is-tree = c .before .before .before .before .before .before .before .before .before .before .is-tree in
+    let if2 = c .before .before .before .before .before .before .before .before .before .if2 in
+    all-written _ _ (if1 .left) (sym (is-tree .ensures) ∙ if2 .taken) (c .before .before .write-node .ensures)
 
 returns-3 : tie.Need-returns-3
 returns-3 c = not-a-tree _ _ (c .before .before .if1 .left) (sym (c .before .is-tree .ensures) ∙ c .if2 .left)

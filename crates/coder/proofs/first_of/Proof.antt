@@ -18,16 +18,27 @@ loop-holds : tie.Need-loop-holds Inv-loop μ-loop
 loop-holds c = descent-start _ _ (c .before .pre .0) (c .before .pre .2)
 
 step-down-requires : tie.Need-step-down-requires Inv-loop μ-loop
-step-down-requires c κs = descent-inner (c .before .before .before .pre .1) (c .loop-test .taken) (c .before .loop .inv)
+step-down-requires c κs =
+    let pre = c .before .before .before .pre in
+    descent-inner (pre .1) (c .loop-test .taken) (c .before .loop .inv)
 
 add-first : tie.Need-add-first Inv-loop μ-loop
-add-first c = omega (arith, descent-few (descend (c .before .before .before .before .before .pre .1) (c .before .before .loop-test .taken) (c .before .before .before .loop .inv) (c .before .step-down .ensures)), c .before .before .before .before .before .pre .1 .few)
+add-first c =
+    let pre = c .before .before .before .before .before .pre in
+    let loop = c .before .before .before .loop in
+    omega (arith, descent-few (descend (pre .1) (c .before .before .loop-test .taken) (loop .inv) (c .before .step-down .ensures)), pre .1 .few)
 
 loop-less : tie.Need-loop-less Inv-loop μ-loop
-loop-less c = stepped-less (descent-inner (c .before .before .before .before .before .pre .1) (c .before .before .loop-test .taken) (c .before .before .before .loop .inv)) (c .before .step-down .ensures)
+loop-less c =
+    let pre = c .before .before .before .before .before .pre in
+    let loop = c .before .before .before .loop in
+    stepped-less (descent-inner (pre .1) (c .before .before .loop-test .taken) (loop .inv)) (c .before .step-down .ensures)
 
 loop-again : tie.Need-loop-again Inv-loop μ-loop
-loop-again c = descend (c .before .before .before .before .before .pre .1) (c .before .before .loop-test .taken) (c .before .before .before .loop .inv) (c .before .step-down .ensures)
+loop-again c =
+    let pre = c .before .before .before .before .before .pre in
+    let loop = c .before .before .before .loop in
+    descend (pre .1) (c .before .before .loop-test .taken) (loop .inv) (c .before .step-down .ensures)
 
 returns : tie.Need-returns Inv-loop μ-loop
 returns c = descent-end (c .loop-test .left) (c .before .loop .inv)

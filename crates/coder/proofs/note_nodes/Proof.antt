@@ -49,25 +49,43 @@ loop-again : tie.Need-loop-again Inv-loop μ-loop
 loop-again c = let v = c .before .before .before .loop in (omega arith, v .inv .1, simp length-set (v .inv .2), simp length-set (v .inv .3), noted-leaf (v .inv .4) (omega arith) (omega arith) (c .if1 .taken))
 
 sub-left : tie.Need-sub-left Inv-loop μ-loop
-sub-left c = let v = c .before .before .before .loop in let O = operands _ _ _ _ (c .before .before .before .before .before .pre .0) (v .inv .4) (c .before .before .loop-test .taken) (c .if1 .left) in omega arith
+sub-left c =
+    let pre = c .before .before .before .before .before .pre in
+    let v = c .before .before .before .loop in let O = operands _ _ _ _ (pre .0) (v .inv .4) (c .before .before .loop-test .taken) (c .if1 .left) in omega arith
 
 mul-left : tie.Need-mul-left Inv-loop μ-loop
-mul-left c = let v = c .before .before .before .loop in let O = operands _ _ _ _ (c .before .before .before .before .before .pre .0) (v .inv .4) (c .before .before .loop-test .taken) (c .if1 .left) in omega arith
+mul-left c =
+    let pre = c .before .before .before .before .before .pre in
+    let v = c .before .before .before .loop in let O = operands _ _ _ _ (pre .0) (v .inv .4) (c .before .before .loop-test .taken) (c .if1 .left) in omega arith
 
 element-copy-out-left : tie.Need-element-copy-out-left Inv-loop μ-loop
-element-copy-out-left c = let v = c .before .before .before .loop in let O = operands _ _ _ _ (c .before .before .before .before .before .pre .0) (v .inv .4) (c .before .before .loop-test .taken) (c .if1 .left) in omega arith
+element-copy-out-left c =
+    let pre = c .before .before .before .before .before .pre in
+    let v = c .before .before .before .loop in let O = operands _ _ _ _ (pre .0) (v .inv .4) (c .before .before .loop-test .taken) (c .if1 .left) in omega arith
 
 cast-left : tie.Need-cast-left Inv-loop μ-loop
-cast-left c = let v = c .before .before .before .before .loop in let O = operands _ _ _ _ (c .before .before .before .before .before .before .pre .0) (v .inv .4) (c .before .before .before .loop-test .taken) (c .before .if1 .left) in omega arith
+cast-left c =
+    let pre = c .before .before .before .before .before .before .pre in
+    let loop-test = c .before .before .before .loop-test in
+    let v = c .before .before .before .before .loop in let O = operands _ _ _ _ (pre .0) (v .inv .4) (loop-test .taken) (c .before .if1 .left) in omega arith
 
 sub-left-2 : tie.Need-sub-left-2 Inv-loop μ-loop
-sub-left-2 c = let v = c .before .before .before .before .loop in let O = operands _ _ _ _ (c .before .before .before .before .before .before .pre .0) (v .inv .4) (c .before .before .before .loop-test .taken) (c .before .if1 .left) in omega arith
+sub-left-2 c =
+    let pre = c .before .before .before .before .before .before .pre in
+    let loop-test = c .before .before .before .loop-test in
+    let v = c .before .before .before .before .loop in let O = operands _ _ _ _ (pre .0) (v .inv .4) (loop-test .taken) (c .before .if1 .left) in omega arith
 
 mul-starts-2 : tie.Need-mul-starts-2 Inv-loop μ-loop
-mul-starts-2 c = let v = c .before .before .before .before .loop in let O = operands _ _ _ _ (c .before .before .before .before .before .before .pre .0) (v .inv .4) (c .before .before .before .loop-test .taken) (c .before .if1 .left) in omega arith
+mul-starts-2 c =
+    let pre = c .before .before .before .before .before .before .pre in
+    let loop-test = c .before .before .before .loop-test in
+    let v = c .before .before .before .before .loop in let O = operands _ _ _ _ (pre .0) (v .inv .4) (loop-test .taken) (c .before .if1 .left) in omega arith
 
 element-copy-out-starts : tie.Need-element-copy-out-starts Inv-loop μ-loop
-element-copy-out-starts c = let v = c .before .before .before .before .loop in let O = operands _ _ _ _ (c .before .before .before .before .before .before .pre .0) (v .inv .4) (c .before .before .before .loop-test .taken) (c .before .if1 .left) in omega arith
+element-copy-out-starts c =
+    let pre = c .before .before .before .before .before .before .pre in
+    let loop-test = c .before .before .before .loop-test in
+    let v = c .before .before .before .before .loop in let O = operands _ _ _ _ (pre .0) (v .inv .4) (loop-test .taken) (c .before .if1 .left) in omega arith
 
 mul-starts-3 : tie.Need-mul-starts-3 Inv-loop μ-loop
 mul-starts-3 c = search needs
@@ -76,16 +94,27 @@ element-write-starts-2 : tie.Need-element-write-starts-2 Inv-loop μ-loop
 element-write-starts-2 c = search needs
 
 element-copy-out-need-of : tie.Need-element-copy-out-need-of Inv-loop μ-loop
-element-copy-out-need-of c = let v = c .before .before .before .before .before .loop in let O = operands _ _ _ _ (c .before .before .before .before .before .before .before .pre .0) (v .inv .4) (c .before .before .before .before .loop-test .taken) (c .before .before .if1 .left) in omega arith
+element-copy-out-need-of c =
+    let pre = c .before .before .before .before .before .before .before .pre in
+    let loop-test = c .before .before .before .before .loop-test in
+    let v = c .before .before .before .before .before .loop in let O = operands _ _ _ _ (pre .0) (v .inv .4) (loop-test .taken) (c .before .before .if1 .left) in omega arith
 
 sub-need-of : tie.Need-sub-need-of Inv-loop μ-loop
-sub-need-of c = let v = c .before .before .before .before .before .before .loop in let O = operands _ _ _ _ (c .before .before .before .before .before .before .before .before .pre .0) (v .inv .4) (c .before .before .before .before .before .loop-test .taken) (c .before .before .before .if1 .left) in omega arith
+sub-need-of c =
+    let pre = c .before .before .before .before .before .before .before .before .pre in
+    let loop-test = c .before .before .before .before .before .loop-test in
+    let if1 = c .before .before .before .if1 in
+    let v = c .before .before .before .before .before .before .loop in let O = operands _ _ _ _ (pre .0) (v .inv .4) (loop-test .taken) (if1 .left) in omega arith
 
 element-copy-out-need-of-2 : tie.Need-element-copy-out-need-of-2 Inv-loop μ-loop
 element-copy-out-need-of-2 c = search needs
 
 need-of-requires : tie.Need-need-of-requires Inv-loop μ-loop
-need-of-requires c κs = let v = c .before .before .before .before .before .before .before .loop in let O = operands _ _ _ _ (c .before .before .before .before .before .before .before .before .before .pre .0) (v .inv .4) (c .before .before .before .before .before .before .loop-test .taken) (c .before .before .before .before .if1 .left) in O .small
+need-of-requires c κs =
+    let pre = c .before .before .before .before .before .before .before .before .before .pre in
+    let loop-test = c .before .before .before .before .before .before .loop-test in
+    let if1 = c .before .before .before .before .if1 in
+    let v = c .before .before .before .before .before .before .before .loop in let O = operands _ _ _ _ (pre .0) (v .inv .4) (loop-test .taken) (if1 .left) in O .small
 
 element-write-needs-2 : tie.Need-element-write-needs-2 Inv-loop μ-loop
 element-write-needs-2 c = search needs
@@ -97,10 +126,14 @@ loop-less-2 : tie.Need-loop-less-2 Inv-loop μ-loop
 loop-less-2 c = search needs
 
 loop-again-2 : tie.Need-loop-again-2 Inv-loop μ-loop
-loop-again-2 c = let v = c .before .before .before .before .before .before .before .before .loop in (omega arith, v .inv .1, simp length-set (v .inv .2), simp length-set (v .inv .3), rw (c .need-of .ensures) (noted-node (v .inv .4) (omega arith) (omega arith) (c .before .before .before .before .before .if1 .left)))
+loop-again-2 c =
+    let if1 = c .before .before .before .before .before .if1 in
+    let v = c .before .before .before .before .before .before .before .before .loop in (omega arith, v .inv .1, simp length-set (v .inv .2), simp length-set (v .inv .3), rw (c .need-of .ensures) (noted-node (v .inv .4) (omega arith) (omega arith) (if1 .left)))
 
 returns : tie.Need-returns Inv-loop μ-loop
-returns c = let v = c .before .loop in let e : v .i ≡ length (now (c .before .before .before .args .tree)) = omega arith in record { all = rw e at (v .inv .4); few = v .inv .1 }
+returns c =
+    let args = c .before .before .before .args in
+    let v = c .before .loop in let e : v .i ≡ length (now (args .tree)) = omega arith in record { all = rw e at (v .inv .4); few = v .inv .1 }
 
 pub note-nodes-spec : {M : Type 1} → statement M
 note-nodes-spec =

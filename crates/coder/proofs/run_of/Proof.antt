@@ -14,10 +14,16 @@ is-tree-requires : tie.Need-is-tree-requires
 is-tree-requires c κs = search needs
 
 note-nodes-requires : tie.Need-note-nodes-requires
-note-nodes-requires c κs = (sym (c .before .before .before .is-tree .ensures) ∙ c .before .before .if2 .taken, refl, refl)
+note-nodes-requires c κs =
+    let is-tree = c .before .before .before .is-tree in
+    (sym (is-tree .ensures) ∙ c .before .before .if2 .taken, refl, refl)
 
 first-of-requires : tie.Need-first-of-requires
-first-of-requires c κs = (sym (c .before .before .before .before .before .before .is-tree .ensures) ∙ c .before .before .before .before .before .if2 .taken, c .before .before .note-nodes .ensures, c .before .before .before .before .before .before .before .if1 .left)
+first-of-requires c κs =
+    let if1 = c .before .before .before .before .before .before .before .if1 in
+    let is-tree = c .before .before .before .before .before .before .is-tree in
+    let if2 = c .before .before .before .before .before .if2 in
+    (sym (is-tree .ensures) ∙ if2 .taken, c .before .before .note-nodes .ensures, if1 .left)
 
 mul-start : tie.Need-mul-start
 mul-start c = search needs
@@ -26,16 +32,31 @@ array-read-start : tie.Need-array-read-start
 array-read-start c = search needs
 
 cast-start : tie.Need-cast-start
-cast-start c = omega (arith, part-start _ _ (sym (c .before .before .before .before .before .before .before .is-tree .ensures) ∙ c .before .before .before .before .before .before .if2 .taken) (c .before .before .before .note-nodes .ensures) (c .before .before .before .before .before .before .before .before .if1 .left), tree-few _ (sym (c .before .before .before .before .before .before .before .is-tree .ensures) ∙ c .before .before .before .before .before .before .if2 .taken))
+cast-start c =
+    let if1 = c .before .before .before .before .before .before .before .before .if1 in
+    let is-tree = c .before .before .before .before .before .before .before .is-tree in
+    let if2 = c .before .before .before .before .before .before .if2 in
+    let note-nodes = c .before .before .before .note-nodes in
+    omega (arith, part-start _ _ (sym (is-tree .ensures) ∙ if2 .taken) (note-nodes .ensures) (if1 .left), tree-few _ (sym (is-tree .ensures) ∙ if2 .taken))
 
 add-t15 : tie.Need-add-t15
 add-t15 c = search needs
 
 sub-t19 : tie.Need-sub-t19
-sub-t19 c = omega (arith, part-start _ _ (sym (c .before .before .before .before .before .before .before .is-tree .ensures) ∙ c .before .before .before .before .before .before .if2 .taken) (c .before .before .before .note-nodes .ensures) (c .before .before .before .before .before .before .before .before .if1 .left))
+sub-t19 c =
+    let if1 = c .before .before .before .before .before .before .before .before .if1 in
+    let is-tree = c .before .before .before .before .before .before .before .is-tree in
+    let if2 = c .before .before .before .before .before .before .if2 in
+    let note-nodes = c .before .before .before .note-nodes in
+    omega (arith, part-start _ _ (sym (is-tree .ensures) ∙ if2 .taken) (note-nodes .ensures) (if1 .left))
 
 returns-2 : tie.Need-returns-2
-returns-2 c = the-run _ _ (sym (c .before .before .before .before .before .before .before .is-tree .ensures) ∙ c .before .before .before .before .before .before .if2 .taken) (c .before .before .before .note-nodes .ensures) (c .before .before .before .before .before .before .before .before .if1 .left) (c .first-of .ensures)
+returns-2 c =
+    let if1 = c .before .before .before .before .before .before .before .before .if1 in
+    let is-tree = c .before .before .before .before .before .before .before .is-tree in
+    let if2 = c .before .before .before .before .before .before .if2 in
+    let note-nodes = c .before .before .before .note-nodes in
+    the-run _ _ (sym (is-tree .ensures) ∙ if2 .taken) (note-nodes .ensures) (if1 .left) (c .first-of .ensures)
 
 returns-3 : tie.Need-returns-3
 returns-3 c = no-such-tree _ _ (sym (c .before .is-tree .ensures) ∙ c .if2 .left)

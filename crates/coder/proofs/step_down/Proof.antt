@@ -43,10 +43,14 @@ element-copy-out-t24 : tie.Need-element-copy-out-t24
 element-copy-out-t24 c = search needs
 
 cast-t25 : tie.Need-cast-t25
-cast-t25 c = omega (arith, c .before .before .before .before .before .before .pre .low)
+cast-t25 c =
+    let pre = c .before .before .before .before .before .before .pre in
+    omega (arith, pre .low)
 
 sub-t26 : tie.Need-sub-t26
-sub-t26 c = c .before .before .before .before .before .before .pre .low
+sub-t26 c =
+    let pre = c .before .before .before .before .before .before .pre in
+    pre .low
 
 returns-2 : tie.Need-returns-2
 returns-2 c = let a = c .before .before .before .before .before .before .args in stepped-right-second (now (a .starts)) (now (a .needs)) (a .end) (a .position) (c .before .before .if1 .taken) (c .before .if2 .left)

@@ -1,5 +1,5 @@
-use mathlib.Core.Path.{_≡_, refl, sym, ap, _∙_}
-use Prim.Native.Nat.{ℕ, _≤_, _-_}
+use mathlib.Core.Path.{_≡_, refl, sym, _∙_}
+use Prim.Native.Nat.{_≤_, _-_}
 use native.Mathlib.Omega.{arith}
 use lib.ListN.{length, take, drop, length-set}
 use lib.Seq.{length-take-le}
@@ -19,83 +19,72 @@ Inv-loop list found₀ count₀ i₀ found count i = (i ≤ length list) × (cou
 abbrev μ-loop : tie.MeasureT-loop
 μ-loop list found₀ count₀ i₀ found count i = length list - i
 
--- src/lib.rt:382:5
 loop-holds : tie.Need-loop-holds Inv-loop μ-loop
 loop-holds c = (omega arith, c .before .before .pre, search needs, refl)
 
--- src/lib.rt:383:17
 mul-x : tie.Need-mul-x Inv-loop μ-loop
 mul-x c = omega arith
 
--- src/lib.rt:383:17
 shared-slice-read-x : tie.Need-shared-slice-read-x Inv-loop μ-loop
 shared-slice-read-x c = omega arith
 
--- src/lib.rt:385:29
 array-share-prefix-found : tie.Need-array-share-prefix-found Inv-loop μ-loop
 array-share-prefix-found c = omega arith
 
--- src/lib.rt:385:29
 slice-aggregate-is-in : tie.Need-slice-aggregate-is-in Inv-loop μ-loop
 slice-aggregate-is-in c = let l = c .before .before .before .before .loop in sym (length-take-le (l .count) (l .found) (omega arith))
 
--- src/lib.rt:385:17
 is-in-requires : tie.Need-is-in-requires Inv-loop μ-loop
 is-in-requires c κs = tt
 
--- src/lib.rt:387:17
 add-i : tie.Need-add-i Inv-loop μ-loop
 add-i c = omega arith
 
--- src/lib.rt:382:5
 loop-less : tie.Need-loop-less Inv-loop μ-loop
 loop-less c = omega arith
 
--- src/lib.rt:382:5
 loop-again : tie.Need-loop-again Inv-loop μ-loop
-loop-again c = let l = c .before .before .before .before .before .before .loop in (omega arith, l .inv .1, l .inv .2, sym (collect-old _ _ _ (c .before .before .before .before .before .loop-test .taken) (c .before .before .before .if1 .taken) (sym (c .before .is-in .ensures) ∙ c .if2 .taken)) ∙ l .inv .3)
+loop-again c =
+    let loop-test = c .before .before .before .before .before .loop-test in
+    let if1 = c .before .before .before .if1 in
+    let l = c .before .before .before .before .before .before .loop in (omega arith, l .inv .1, l .inv .2, sym (collect-old _ _ _ (loop-test .taken) (if1 .taken) (sym (c .before .is-in .ensures) ∙ c .if2 .taken)) ∙ l .inv .3)
 
--- src/lib.rt:390:21
 returns : tie.Need-returns Inv-loop μ-loop
-returns c = let l = c .before .before .before .before .before .before .before .loop in collect-many _ _ _ _ _ (c .before .before .before .before .before .before .loop-test .taken) (c .before .before .before .before .if1 .taken) (sym (c .before .before .is-in .ensures) ∙ c .before .if2 .left) (c .if3 .taken) (l .inv .2) (l .inv .3)
+returns c =
+    let loop-test = c .before .before .before .before .before .before .loop-test in
+    let if1 = c .before .before .before .before .if1 in
+    let l = c .before .before .before .before .before .before .before .loop in collect-many _ _ _ _ _ (loop-test .taken) (if1 .taken) (sym (c .before .before .is-in .ensures) ∙ c .before .if2 .left) (c .if3 .taken) (l .inv .2) (l .inv .3)
 
--- src/lib.rt:392:17
 mul-found : tie.Need-mul-found Inv-loop μ-loop
 mul-found c = omega arith
 
--- src/lib.rt:392:17
 array-write-found : tie.Need-array-write-found Inv-loop μ-loop
 array-write-found c = omega arith
 
--- src/lib.rt:393:17
 add-count : tie.Need-add-count Inv-loop μ-loop
 add-count c = omega arith
 
--- src/lib.rt:394:17
 add-i-2 : tie.Need-add-i-2 Inv-loop μ-loop
 add-i-2 c = omega arith
 
--- src/lib.rt:382:5
 loop-less-2 : tie.Need-loop-less-2 Inv-loop μ-loop
 loop-less-2 c = omega arith
 
--- src/lib.rt:382:5
 loop-again-2 : tie.Need-loop-again-2 Inv-loop μ-loop
-loop-again-2 c = let l = c .before .before .before .before .before .before .before .loop in (omega arith, omega arith, simp length-set (l .inv .2), sym (collect-written (l .found) _ (l .count) (l .i) (c .before .before .before .before .before .before .loop-test .taken) (c .before .before .before .before .if1 .taken) (sym (c .before .before .is-in .ensures) ∙ c .before .if2 .left) (omega arith)) ∙ l .inv .3)
+loop-again-2 c =
+    let loop-test = c .before .before .before .before .before .before .loop-test in
+    let if1 = c .before .before .before .before .if1 in
+    let l = c .before .before .before .before .before .before .before .loop in (omega arith, omega arith, simp length-set (l .inv .2), sym (collect-written (l .found) _ (l .count) (l .i) (loop-test .taken) (if1 .taken) (sym (c .before .before .is-in .ensures) ∙ c .before .if2 .left) (omega arith)) ∙ l .inv .3)
 
--- src/lib.rt:397:13
 add-i-3 : tie.Need-add-i-3 Inv-loop μ-loop
 add-i-3 c = omega arith
 
--- src/lib.rt:382:5
 loop-less-3 : tie.Need-loop-less-3 Inv-loop μ-loop
 loop-less-3 c = omega arith
 
--- src/lib.rt:382:5
 loop-again-3 : tie.Need-loop-again-3 Inv-loop μ-loop
 loop-again-3 c = let l = c .before .before .before .loop in (omega arith, l .inv .1, l .inv .2, sym (collect-operator _ _ _ (c .before .before .loop-test .taken) (c .if1 .left)) ∙ l .inv .3)
 
--- src/lib.rt:375:1
 returns-2 : tie.Need-returns-2 Inv-loop μ-loop
 returns-2 c = let l = c .before .loop in collected _ _ _ _ _ (c .loop-test .left) (l .inv .1) (l .inv .3)
 

@@ -1,5 +1,5 @@
-use mathlib.Core.Path.{_≡_, refl, sym, ap, _∙_}
-use Prim.Native.Nat.{ℕ, _≤_, _-_}
+use mathlib.Core.Path.{_≡_, refl, sym, _∙_}
+use Prim.Native.Nat.{_≤_, _-_}
 use native.Mathlib.Omega.{arith}
 use lib.ListN.{length, drop}
 use borrow.Author.Tests.{eq-eqb, ne-eqb}
@@ -17,67 +17,58 @@ Inv-loop groups marks i₀ i = (i ≤ length marks) × (badMark groups marks ≡
 abbrev μ-loop : tie.MeasureT-loop
 μ-loop groups marks i₀ i = length marks - i
 
--- src/lib.rt:408:9
 returns : tie.Need-returns Inv-loop μ-loop
 returns c = rw (eq-eqb _ _ (c .if1 .taken))
 
--- src/lib.rt:411:5
 loop-holds : tie.Need-loop-holds Inv-loop μ-loop
 loop-holds c = (omega arith, refl)
 
--- src/lib.rt:412:17
 mul-x : tie.Need-mul-x Inv-loop μ-loop
 mul-x c = omega arith
 
--- src/lib.rt:412:17
 shared-slice-read-x : tie.Need-shared-slice-read-x Inv-loop μ-loop
 shared-slice-read-x c = omega arith
 
--- src/lib.rt:413:27
 add-rest : tie.Need-add-rest Inv-loop μ-loop
 add-rest c = omega arith
 
--- src/lib.rt:413:20
 mul-rest : tie.Need-mul-rest Inv-loop μ-loop
 mul-rest c = omega arith
 
--- src/lib.rt:413:20
 sub-rest : tie.Need-sub-rest Inv-loop μ-loop
 sub-rest c = omega arith
 
--- src/lib.rt:413:20
 part-rest-start : tie.Need-part-rest-start Inv-loop μ-loop
 part-rest-start c = omega arith
 
--- src/lib.rt:413:20
 part-rest-end : tie.Need-part-rest-end Inv-loop μ-loop
 part-rest-end c = omega arith
 
--- src/lib.rt:414:13
 is-in-requires : tie.Need-is-in-requires Inv-loop μ-loop
 is-in-requires c κs = tt
 
--- src/lib.rt:415:13
 is-in-requires-2 : tie.Need-is-in-requires-2 Inv-loop μ-loop
 is-in-requires-2 c κs = tt
 
--- src/lib.rt:417:13
 returns-2 : tie.Need-returns-2 Inv-loop μ-loop
-returns-2 c = rw (ne-eqb _ _ (c .before .before .before .before .before .before .before .if1 .left)) (sym (c .before .before .before .before .before .before .loop .inv .1 ∙ bad-stop _ _ _ _ _ (c .before .before .before .before .before .loop-test .taken) (c .before .before .is-in .ensures) (c .before .is-in2 .ensures) (c .if2 .taken)))
+returns-2 c =
+    let if1 = c .before .before .before .before .before .before .before .if1 in
+    let loop = c .before .before .before .before .before .before .loop in
+    let loop-test = c .before .before .before .before .before .loop-test in
+    rw (ne-eqb _ _ (if1 .left)) (sym (loop .inv .1 ∙ bad-stop _ _ _ _ _ (loop-test .taken) (c .before .before .is-in .ensures) (c .before .is-in2 .ensures) (c .if2 .taken)))
 
--- src/lib.rt:419:9
 add-i : tie.Need-add-i Inv-loop μ-loop
 add-i c = omega arith
 
--- src/lib.rt:411:5
 loop-less : tie.Need-loop-less Inv-loop μ-loop
 loop-less c = omega arith
 
--- src/lib.rt:411:5
 loop-again : tie.Need-loop-again Inv-loop μ-loop
-loop-again c = (omega arith, c .before .before .before .before .before .before .loop .inv .1 ∙ bad-on _ _ _ _ _ (c .before .before .before .before .before .loop-test .taken) (c .before .before .is-in .ensures) (c .before .is-in2 .ensures) (c .if2 .left))
+loop-again c =
+    let loop = c .before .before .before .before .before .before .loop in
+    let loop-test = c .before .before .before .before .before .loop-test in
+    (omega arith, loop .inv .1 ∙ bad-on _ _ _ _ _ (loop-test .taken) (c .before .before .is-in .ensures) (c .before .is-in2 .ensures) (c .if2 .left))
 
--- src/lib.rt:404:1
 returns-3 : tie.Need-returns-3 Inv-loop μ-loop
 returns-3 c = rw (ne-eqb _ _ (c .before .before .if1 .left)) (sym (c .before .loop .inv .1 ∙ bad-none _ _ _ (c .loop-test .left)))
 

@@ -1,59 +1,53 @@
+use Rattle.columns.specs.Inner.{ReadyFor}
 use Rattle.gather.specs.Inner.{BuiltFor}
-use mathlib.Core.Path.{_≡_, sym, subst}
-use Prim.Native.Nat.{ℕ}
-use native.Mathlib.Omega.{arith}
-use Rattle.gather.specs.Inner.{rowsOf, ReadyFor}
-use Rattle.gather.proofs.WholeLaws.{room-for, not-constant, not-columns}
+use mathlib.Core.Path.{subst}
+use Rattle.table.specs.Table.{rowsOf}
+use Rattle.columns.proofs.BuildLaws.{room-for}
+use Rattle.gather.proofs.WholeLaws.{not-constant, not-columns}
 use borrow.Author.Needs.{needs}
 use Rattle.gather.proofs.build.Statement.{statement}
 use Rattle.gather.proofs.build.Tie as tie
 use Rattle.gather.proofs.build.Reads as reads
 use Rattle.gather.proofs.build.Lts as lts
-use Rattle.gather.proofs.build_columns.Reads as build-columns-reads
-use Rattle.gather.proofs.build_constant.Reads as build-constant-reads
+use Rattle.columns.proofs.build_columns.Reads as build-columns-reads
+use Rattle.columns.proofs.build_constant.Reads as build-constant-reads
 
--- src/lib.rt:640:26
 enum-told : tie.Need-enum-told
 enum-told c = search needs
 
--- src/lib.rt:642:66
 enum-told-2 : tie.Need-enum-told-2
 enum-told-2 c = search needs
 
--- src/lib.rt:642:17
 build-constant-requires : tie.Need-build-constant-requires
 build-constant-requires c κs = search needs
 
--- src/lib.rt:645:27
 enum-known-choice : tie.Need-enum-known-choice
 enum-known-choice c = search needs
 
--- src/lib.rt:646:17
 build-columns-requires : tie.Need-build-columns-requires
 build-columns-requires c κs = let a = c .before .before .before .before .before .before .before .args in let p = c .before .before .before .before .before .before .before .pre in let R = subst (ReadyFor (rowsOf (a .t .now)) (a .marks .now) (a .others .now) (a .w)) (c .before .before .choice .given .1) (p .1 .0) in (room-for (p .0) R, (R, p .1 .1))
 
--- src/lib.rt:634:1
 returns : tie.Need-returns
 unfolding BuiltFor
 returns c = search needs
 
--- src/lib.rt:634:1
 same-length : tie.Need-same-length
 same-length c = search needs
 
--- src/lib.rt:634:1
 returns-2 : tie.Need-returns-2
 unfolding BuiltFor
-returns-2 c = rw (c .before .before .before .before .enum-told2 .given .1) (c .before .before .build-constant .ensures, not-constant)
+returns-2 c =
+    let enum-told2 = c .before .before .before .before .enum-told2 in
+    rw (enum-told2 .given .1) (c .before .before .build-constant .ensures, not-constant)
 
--- src/lib.rt:634:1
 same-length-2 : tie.Need-same-length-2
 same-length-2 c = search needs
 
--- src/lib.rt:634:1
 returns-3 : tie.Need-returns-3
 unfolding BuiltFor
-returns-3 c = rw (c .before .before .before .before .before .choice .given .1) (c .before .before .build-columns .ensures, not-columns)
+returns-3 c =
+    let choice = c .before .before .before .before .before .choice in
+    rw (choice .given .1) (c .before .before .build-columns .ensures, not-columns)
 
 pub build-spec : {M : Type 1} → statement M
 build-spec =

@@ -1,4 +1,4 @@
-use mathlib.Core.Path.{_≡_, refl, sym, ap, _∙_}
+use mathlib.Core.Path.{_≡_, sym, ap, _∙_}
 use mathlib.Core.Bool.{cond}
 use native.Mathlib.Omega.{arith}
 use lib.ListN.{length}
@@ -13,43 +13,50 @@ use Rattle.gather.proofs.add_groups.Reads as add-groups-reads
 use Rattle.gather.proofs.bad_marks.Reads as bad-marks-reads
 use Rattle.tree.proofs.is_tree.Reads as is-tree-reads
 
--- src/lib.rt:429:9
 returns : tie.Need-returns
 returns c = fault-short _ _ _ (c .if1 .taken)
 
--- src/lib.rt:431:9
 is-tree-requires : tie.Need-is-tree-requires
 is-tree-requires c κs = search needs
 
--- src/lib.rt:434:13
 add-groups-requires : tie.Need-add-groups-requires
 add-groups-requires c κs = search needs
 
--- src/lib.rt:437:13
 returns-2 : tie.Need-returns-2
-returns-2 c = fault-many _ _ _ (c .before .before .before .before .if1 .left) _ _ (sym (c .before .before .before .is-tree .ensures) ∙ c .before .before .if2 .taken) (c .before .add-groups .ensures) (c .if3 .taken)
+returns-2 c =
+    let if1 = c .before .before .before .before .if1 in
+    let is-tree = c .before .before .before .is-tree in
+    fault-many _ _ _ (if1 .left) _ _ (sym (is-tree .ensures) ∙ c .before .before .if2 .taken) (c .before .add-groups .ensures) (c .if3 .taken)
 
--- src/lib.rt:440:29
 array-share-prefix-found : tie.Need-array-share-prefix-found
 array-share-prefix-found c = let e : length (c .before .before .add-groups .result .list) ≡ 8 = search needs in omega (arith, c .before .if3 .left)
 
--- src/lib.rt:440:29
 slice-aggregate-bad-marks : tie.Need-slice-aggregate-bad-marks
-slice-aggregate-bad-marks c = let e : length (c .before .before .before .add-groups .result .list) ≡ 8 = search needs in sym (length-take-le _ _ (omega (arith, c .before .before .if3 .left)))
+slice-aggregate-bad-marks c =
+    let add-groups = c .before .before .before .add-groups in
+    let e : length (add-groups .result .list) ≡ 8 = search needs in sym (length-take-le _ _ (omega (arith, c .before .before .if3 .left)))
 
--- src/lib.rt:440:13
 bad-marks-requires : tie.Need-bad-marks-requires
 bad-marks-requires c κs = search needs
 
--- src/lib.rt:442:13
 returns-3 : tie.Need-returns-3
-returns-3 c = let e : length (c .before .before .before .before .before .add-groups .result .list) ≡ 8 = search needs in ap (λ b. cond b 18 0) (sym (c .if4 .taken)) ∙ fault-marks _ _ _ (c .before .before .before .before .before .before .before .before .if1 .left) _ _ _ (sym (c .before .before .before .before .before .before .before .is-tree .ensures) ∙ c .before .before .before .before .before .before .if2 .taken) (c .before .before .before .before .before .add-groups .ensures) (c .before .before .before .before .if3 .left) e (c .before .bad-marks .ensures)
+returns-3 c =
+    let if1 = c .before .before .before .before .before .before .before .before .if1 in
+    let is-tree = c .before .before .before .before .before .before .before .is-tree in
+    let if2 = c .before .before .before .before .before .before .if2 in
+    let add-groups = c .before .before .before .before .before .add-groups in
+    let if3 = c .before .before .before .before .if3 in
+    let e : length (add-groups .result .list) ≡ 8 = search needs in ap (λ b. cond b 18 0) (sym (c .if4 .taken)) ∙ fault-marks _ _ _ (if1 .left) _ _ _ (sym (is-tree .ensures) ∙ if2 .taken) (add-groups .ensures) (if3 .left) e (c .before .bad-marks .ensures)
 
--- src/lib.rt:444:9
 returns-4 : tie.Need-returns-4
-returns-4 c = let e : length (c .before .before .before .before .before .add-groups .result .list) ≡ 8 = search needs in ap (λ b. cond b 18 0) (sym (c .if4 .left)) ∙ fault-marks _ _ _ (c .before .before .before .before .before .before .before .before .if1 .left) _ _ _ (sym (c .before .before .before .before .before .before .before .is-tree .ensures) ∙ c .before .before .before .before .before .before .if2 .taken) (c .before .before .before .before .before .add-groups .ensures) (c .before .before .before .before .if3 .left) e (c .before .bad-marks .ensures)
+returns-4 c =
+    let if1 = c .before .before .before .before .before .before .before .before .if1 in
+    let is-tree = c .before .before .before .before .before .before .before .is-tree in
+    let if2 = c .before .before .before .before .before .before .if2 in
+    let add-groups = c .before .before .before .before .before .add-groups in
+    let if3 = c .before .before .before .before .if3 in
+    let e : length (add-groups .result .list) ≡ 8 = search needs in ap (λ b. cond b 18 0) (sym (c .if4 .left)) ∙ fault-marks _ _ _ (if1 .left) _ _ _ (sym (is-tree .ensures) ∙ if2 .taken) (add-groups .ensures) (if3 .left) e (c .before .bad-marks .ensures)
 
--- src/lib.rt:425:1
 returns-5 : tie.Need-returns-5
 returns-5 c = fault-none _ _ _ (c .before .before .if1 .left) (sym (c .before .is-tree .ensures) ∙ c .if2 .left)
 

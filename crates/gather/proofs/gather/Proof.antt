@@ -1,4 +1,4 @@
-use mathlib.Core.Path.{_≡_, refl, sym, _∙_}
+use mathlib.Core.Path.{refl, sym, _∙_}
 use borrow.Author.Needs.{needs}
 use Rattle.gather.proofs.gather.Statement.{statement}
 use Rattle.gather.proofs.gather.Tie as tie
@@ -7,23 +7,21 @@ use Rattle.gather.proofs.gather.Lts as lts
 use Rattle.gather.proofs.fault_of.Reads as fault-of-reads
 use Rattle.gather.proofs.gather_tree.Reads as gather-tree-reads
 
--- src/lib.rt:707:9
 fault-of-requires : tie.Need-fault-of-requires
 fault-of-requires c κs = search needs
 
--- src/lib.rt:709:9
 gather-tree-requires : tie.Need-gather-tree-requires
 gather-tree-requires c κs = search needs
 
--- src/lib.rt:709:9
 same-length : tie.Need-same-length
 same-length c = search needs
 
--- src/lib.rt:709:9
 returns : tie.Need-returns
-returns c = record { faulty = λ n. absurd (n (sym (c .before .before .before .before .before .fault-of .ensures) ∙ c .before .before .before .before .if1 .taken)); gathers = λ e t q. c .before .before .gather-tree .ensures t q }
+returns c =
+    let fault-of = c .before .before .before .before .before .fault-of in
+    let if1 = c .before .before .before .before .if1 in
+    record { faulty = λ n. absurd (n (sym (fault-of .ensures) ∙ if1 .taken)); gathers = λ e t q. c .before .before .gather-tree .ensures t q }
 
--- src/lib.rt:704:1
 returns-2 : tie.Need-returns-2
 returns-2 c = record { faulty = λ n. (c .before .fault-of .ensures, refl); gathers = λ e. absurd (c .if1 .left (c .before .fault-of .ensures ∙ e)) }
 

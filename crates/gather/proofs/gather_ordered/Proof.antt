@@ -1,8 +1,8 @@
-use mathlib.Core.Path.{_≡_, sym, ap, subst, _∙_}
+use mathlib.Core.Path.{sym, ap}
 use native.Mathlib.Omega.{arith}
 use lib.ListN.{length}
-use Rattle.gather.specs.Table.{table}
-use Rattle.gather.proofs.TableLaws.{length-table}
+use Rattle.table.specs.Table.{table}
+use Rattle.table.proofs.TableLaws.{length-table}
 use Rattle.gather.proofs.WholeLaws.{marks-length, rest-all, total-most, scanned, room, ready-for, gathers-tree}
 use borrow.Author.Needs.{needs}
 use Rattle.gather.proofs.gather_ordered.Statement.{statement}
@@ -10,65 +10,67 @@ use Rattle.gather.proofs.gather_ordered.Tie as tie
 use Rattle.gather.proofs.gather_ordered.Reads as reads
 use Rattle.gather.proofs.gather_ordered.Lts as lts
 use Rattle.gather.proofs.build.Reads as build-reads
-use Rattle.gather.proofs.choose.Reads as choose-reads
-use Rattle.gather.proofs.power.Reads as power-reads
-use Rattle.gather.proofs.table.Reads as table-reads
+use Rattle.columns.proofs.choose.Reads as choose-reads
+use Rattle.columns.proofs.power.Reads as power-reads
+use Rattle.table.proofs.table.Reads as table-reads
 
--- src/lib.rt:661:13
 table-requires : tie.Need-table-requires
 table-requires c κs = search needs
 
--- src/lib.rt:662:9
 power-requires : tie.Need-power-requires
 power-requires c κs = search needs
 
--- src/lib.rt:663:25
 sub-power : tie.Need-sub-power
 sub-power c = search needs
 
--- src/lib.rt:663:9
 power-requires-2 : tie.Need-power-requires-2
 power-requires-2 c κs = search needs
 
--- src/lib.rt:664:32
 mul-choose : tie.Need-mul-choose
-mul-choose c = let o = c .before .before .before .before .before .before .before .pre .1 .0 in omega (arith, total-most o _ _ (c .before .before .power .ensures) (c .before .power2 .ensures))
+mul-choose c =
+    let pre = c .before .before .before .before .before .before .before .pre in
+    let o = pre .1 .0 in omega (arith, total-most o _ _ (c .before .before .power .ensures) (c .before .power2 .ensures))
 
--- src/lib.rt:664:9
 choose-requires : tie.Need-choose-requires
-choose-requires c κs = scanned (c .before .before .before .before .before .before .before .pre .1 .0) _ _ (c .before .before .power .ensures) (c .before .power2 .ensures)
+choose-requires c κs =
+    let pre = c .before .before .before .before .before .before .before .pre in
+    scanned (pre .1 .0) _ _ (c .before .before .power .ensures) (c .before .power2 .ensures)
 
--- src/lib.rt:665:23
 slice-aggregate-build : tie.Need-slice-aggregate-build
-slice-aggregate-build c = sym (marks-length (c .before .before .before .before .before .before .before .before .before .before .pre .1 .0))
+slice-aggregate-build c =
+    let pre = c .before .before .before .before .before .before .before .before .before .before .pre in
+    sym (marks-length (pre .1 .0))
 
--- src/lib.rt:665:37
 mul-build : tie.Need-mul-build
 mul-build c = search needs
 
--- src/lib.rt:665:37
 sub-build : tie.Need-sub-build
 sub-build c = search needs
 
--- src/lib.rt:665:37
 part-build-start : tie.Need-part-build-start
 part-build-start c = search needs
 
--- src/lib.rt:665:37
 part-build-end : tie.Need-part-build-end
 part-build-end c = search needs
 
--- src/lib.rt:665:5
 build-requires : tie.Need-build-requires
-build-requires c κs = let a = c .before .before .before .before .before .before .before .before .before .before .before .before .args in let p = c .before .before .before .before .before .before .before .before .before .before .before .before .pre in let o = p .1 .0 in let w = c .before .before .before .before .before .before .before .power .ensures in let n = c .before .before .before .before .before .before .power2 .ensures in rw (rest-all o) (room o _ _ w n _ (p .1 .1), (ready-for o _ _ w n (p .0 .0) (p .0 .1) _ (c .before .before .before .before .before .before .before .before .table .ensures (p .0 .0) (p .0 .1)) _ (c .before .before .before .before .choose .ensures), omega (arith, ap length (c .before .before .before .before .before .before .before .before .table .ensures (p .0 .0) (p .0 .1)), length-table (a .groups .now) (p .0 .0))))
+build-requires c κs =
+    let table = c .before .before .before .before .before .before .before .before .table in
+    let power = c .before .before .before .before .before .before .before .power in
+    let power2 = c .before .before .before .before .before .before .power2 in
+    let choose = c .before .before .before .before .choose in
+    let a = c .before .before .before .before .before .before .before .before .before .before .before .before .args in let p = c .before .before .before .before .before .before .before .before .before .before .before .before .pre in let o = p .1 .0 in let w = power .ensures in let n = power2 .ensures in rw (rest-all o) (room o _ _ w n _ (p .1 .1), (ready-for o _ _ w n (p .0 .0) (p .0 .1) _ (table .ensures (p .0 .0) (p .0 .1)) _ (choose .ensures), omega (arith, ap length (table .ensures (p .0 .0) (p .0 .1)), length-table (a .groups .now) (p .0 .0))))
 
--- src/lib.rt:655:1
 same-length : tie.Need-same-length
 same-length c = search needs
 
--- src/lib.rt:655:1
 returns : tie.Need-returns
-returns c = let p = c .before .before .before .before .before .before .before .before .before .before .before .before .before .before .before .pre in let o = p .1 .0 in λ t e. gathers-tree o _ _ (c .before .before .before .before .before .before .before .before .before .before .power .ensures) (c .before .before .before .before .before .before .before .before .before .power2 .ensures) t e _ (c .before .before .before .before .before .before .before .before .before .before .before .table .ensures t e) _ (c .before .before .before .before .before .before .before .choose .ensures) _ _ (p .1 .1) _ (rw (rest-all o) at (c .before .before .build .ensures))
+returns c =
+    let table = c .before .before .before .before .before .before .before .before .before .before .before .table in
+    let power = c .before .before .before .before .before .before .before .before .before .before .power in
+    let power2 = c .before .before .before .before .before .before .before .before .before .power2 in
+    let choose = c .before .before .before .before .before .before .before .choose in
+    let p = c .before .before .before .before .before .before .before .before .before .before .before .before .before .before .before .pre in let o = p .1 .0 in λ t e. gathers-tree o _ _ (power .ensures) (power2 .ensures) t e _ (table .ensures t e) _ (choose .ensures) _ _ (p .1 .1) _ (rw (rest-all o) at (c .before .before .build .ensures))
 
 pub gather-ordered-spec : {M : Type 1} → statement M
 gather-ordered-spec =

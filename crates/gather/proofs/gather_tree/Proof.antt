@@ -1,5 +1,5 @@
 use Rattle.gather.specs.Answer.{GathersTree}
-use mathlib.Core.Path.{_≡_, sym, _∙_}
+use mathlib.Core.Path.{sym, _∙_}
 use mathlib.Core.Logic.{inl, inr}
 use native.Mathlib.Omega.{arith}
 use Rattle.gather.proofs.HoldingLaws.{status-gathered, status-not}
@@ -13,75 +13,78 @@ use Rattle.gather.proofs.holding.Reads as holding-reads
 use Rattle.gather.proofs.rearrange.Reads as rearrange-reads
 use Rattle.tree.proofs.copy.Reads as copy-reads
 
--- src/lib.rt:687:9
 holding-requires : tie.Need-holding-requires
-holding-requires c κs = faultless-list (faultless _ _ _ (c .before .before .before .pre))
+holding-requires c κs =
+    let pre = c .before .before .before .pre in
+    faultless-list (faultless _ _ _ pre)
 
--- src/lib.rt:689:48
 enum-told : tie.Need-enum-told
 enum-told c = search needs
 
--- src/lib.rt:689:25
 rearrange-requires : tie.Need-rearrange-requires
-rearrange-requires c κs = (c .before .before .before .before .before .before .before .pre, λ t p e g. status-not _ (sym (c .before .before .before .holding .ensures t e) ∙ c .before .enum-told .given .1) not-free g)
+rearrange-requires c κs =
+    let pre = c .before .before .before .before .before .before .before .pre in
+    let holding = c .before .before .before .holding in
+    (pre, λ t p e g. status-not _ (sym (holding .ensures t e) ∙ c .before .enum-told .given .1) not-free g)
 
--- src/lib.rt:690:49
 enum-told-2 : tie.Need-enum-told-2
 enum-told-2 c = search needs
 
--- src/lib.rt:690:26
 rearrange-requires-2 : tie.Need-rearrange-requires-2
-rearrange-requires-2 c κs = (c .before .before .before .before .before .before .before .pre, λ t p e g. status-not _ (sym (c .before .before .before .holding .ensures t e) ∙ c .before .enum-told2 .given .1) not-mixed g)
+rearrange-requires-2 c κs =
+    let pre = c .before .before .before .before .before .before .before .pre in
+    let holding = c .before .before .before .holding in
+    (pre, λ t p e g. status-not _ (sym (holding .ensures t e) ∙ c .before .enum-told2 .given .1) not-mixed g)
 
--- src/lib.rt:691:21
 enum-known-status : tie.Need-enum-known-status
 enum-known-status c = search needs
 
--- src/lib.rt:692:17
 copy-requires : tie.Need-copy-requires
-copy-requires c κs = let f = faultless _ _ _ (c .before .before .before .before .before .before .before .before .pre) in omega (arith, f .space, faultless-list f .2)
+copy-requires c κs =
+    let pre = c .before .before .before .before .before .before .before .before .pre in
+    let f = faultless _ _ _ pre in omega (arith, f .space, faultless-list f .2)
 
--- src/lib.rt:695:22
 enum-known-status-2 : tie.Need-enum-known-status-2
 enum-known-status-2 c = search needs
 
--- src/lib.rt:696:17
 copy-requires-2 : tie.Need-copy-requires-2
-copy-requires-2 c κs = let f = faultless _ _ _ (c .before .before .before .before .before .before .before .before .pre) in omega (arith, f .space, faultless-list f .2)
+copy-requires-2 c κs =
+    let pre = c .before .before .before .before .before .before .before .before .pre in
+    let f = faultless _ _ _ pre in omega (arith, f .space, faultless-list f .2)
 
--- src/lib.rt:683:1
 same-length : tie.Need-same-length
 same-length c = search needs
 
--- src/lib.rt:683:1
 returns : tie.Need-returns
 returns c = search needs
 
--- src/lib.rt:683:1
 same-length-2 : tie.Need-same-length-2
 same-length-2 c = search needs
 
--- src/lib.rt:683:1
 returns-2 : tie.Need-returns-2
 returns-2 c = search needs
 
--- src/lib.rt:683:1
 same-length-3 : tie.Need-same-length-3
 same-length-3 c = search needs
 
--- src/lib.rt:683:1
 returns-3 : tie.Need-returns-3
 unfolding GathersTree
-returns-3 c = let f = faultless _ _ _ (c .before .before .before .before .before .before .before .before .before .before .before .pre) in λ t q. copied t q (f .space) (c .before .before .copy .ensures) (status-gathered _ t _ (inr (sym (c .before .before .before .before .before .before .before .holding .ensures t (the-same q)) ∙ c .before .before .before .before .before .status .given .1)))
+returns-3 c =
+    let pre = c .before .before .before .before .before .before .before .before .before .before .before .pre in
+    let holding = c .before .before .before .before .before .before .before .holding in
+    let status = c .before .before .before .before .before .status in
+    let f = faultless _ _ _ pre in λ t q. copied t q (f .space) (c .before .before .copy .ensures) (status-gathered _ t _ (inr (sym (holding .ensures t (the-same q)) ∙ status .given .1)))
 
--- src/lib.rt:683:1
 same-length-4 : tie.Need-same-length-4
 same-length-4 c = search needs
 
--- src/lib.rt:683:1
 returns-4 : tie.Need-returns-4
 unfolding GathersTree
-returns-4 c = let f = faultless _ _ _ (c .before .before .before .before .before .before .before .before .before .before .before .pre) in λ t q. copied t q (f .space) (c .before .before .copy2 .ensures) (status-gathered _ t _ (inl (sym (c .before .before .before .before .before .before .before .holding .ensures t (the-same q)) ∙ c .before .before .before .before .before .status2 .given .1)))
+returns-4 c =
+    let pre = c .before .before .before .before .before .before .before .before .before .before .before .pre in
+    let holding = c .before .before .before .before .before .before .before .holding in
+    let status2 = c .before .before .before .before .before .status2 in
+    let f = faultless _ _ _ pre in λ t q. copied t q (f .space) (c .before .before .copy2 .ensures) (status-gathered _ t _ (inl (sym (holding .ensures t (the-same q)) ∙ status2 .given .1)))
 
 pub gather-tree-spec : {M : Type 1} → statement M
 gather-tree-spec =

@@ -1,12 +1,12 @@
-use mathlib.Core.Path.{_≡_, refl, sym, ap, _∙_}
-use Prim.Native.Nat.{ℕ, _≤_, _-_}
+use mathlib.Core.Path.{_≡_, refl}
+use Prim.Native.Nat.{_≤_, _-_}
 use native.Mathlib.Omega.{arith}
-use lib.ListN.{length, drop, getD, length-set}
-use Rattle.tree.specs.Tree.{Operator, Tree, postfix, isIn}
+use lib.ListN.{length, length-set}
+use Rattle.tree.specs.Tree.{Tree, postfix, isIn}
 use Rattle.tree.proofs.PassLaws.{Passing, passing-start}
 use Rattle.gather.specs.Holding.{leafStatus, nodeStatus}
 use Rattle.gather.specs.declared.Status.the-variants.{Free}
-use Rattle.gather.proofs.EntryLaws.{turn-group, turn-operator, turn-two, turn-end}
+use Rattle.table.proofs.EntryLaws.{turn-group, turn-operator, turn-two, turn-end}
 use borrow.Author.Needs.{needs}
 use Rattle.gather.proofs.holding.Statement.{statement}
 use Rattle.gather.proofs.holding.Tie as tie
@@ -21,113 +21,112 @@ Inv-loop list marks stack₀ top₀ i₀ stack top i = (i ≤ length list) × (t
 abbrev μ-loop : tie.MeasureT-loop
 μ-loop list marks stack₀ top₀ i₀ stack top i = length list - i
 
--- src/lib.rt:347:5
 loop-holds : tie.Need-loop-holds Inv-loop μ-loop
 loop-holds c = (omega arith, omega arith, refl, λ t e. passing-start (leafStatus (isIn (c .before .before .args .marks .now))) nodeStatus Free t _)
 
--- src/lib.rt:348:17
 mul-x : tie.Need-mul-x Inv-loop μ-loop
 mul-x c = omega arith
 
--- src/lib.rt:348:17
 shared-slice-read-x : tie.Need-shared-slice-read-x Inv-loop μ-loop
 shared-slice-read-x c = omega arith
 
--- src/lib.rt:350:17
 leaf-status-requires : tie.Need-leaf-status-requires Inv-loop μ-loop
 leaf-status-requires c κs = tt
 
--- src/lib.rt:351:13
 mul-stack : tie.Need-mul-stack Inv-loop μ-loop
-mul-stack c = omega (arith, c .before .before .before .before .before .before .before .pre .2)
+mul-stack c =
+    let pre = c .before .before .before .before .before .before .before .pre in
+    omega (arith, pre .2)
 
--- src/lib.rt:351:13
 array-set-from-stack : tie.Need-array-set-from-stack Inv-loop μ-loop
-array-set-from-stack c = omega (arith, c .before .before .before .before .before .before .before .pre .2)
+array-set-from-stack c =
+    let pre = c .before .before .before .before .before .before .before .pre in
+    omega (arith, pre .2)
 
--- src/lib.rt:352:13
 add-top : tie.Need-add-top Inv-loop μ-loop
 add-top c = omega arith
 
--- src/lib.rt:353:13
 add-i : tie.Need-add-i Inv-loop μ-loop
 add-i c = omega arith
 
--- src/lib.rt:347:5
 loop-less : tie.Need-loop-less Inv-loop μ-loop
 loop-less c = omega arith
 
--- src/lib.rt:347:5
 loop-again : tie.Need-loop-again Inv-loop μ-loop
-loop-again c = let l = c .before .before .before .before .loop in let a = c .before .before .before .before .before .before .before .args in (omega arith, omega arith, simp length-set (l .inv .2), λ t e. turn-group (leafStatus (isIn (a .marks .now))) nodeStatus Free (a .list .now) t e (l .i) (l .stack) (l .top) (c .leaf-status .result) (c .before .before .before .loop-test .taken) (c .before .if1 .taken) (omega (arith, c .before .before .before .before .before .before .before .pre .2)) (λ h. c .leaf-status .ensures) (l .inv .3 t e))
+loop-again c =
+    let pre = c .before .before .before .before .before .before .before .pre in
+    let loop-test = c .before .before .before .loop-test in
+    let l = c .before .before .before .before .loop in let a = c .before .before .before .before .before .before .before .args in (omega arith, omega arith, simp length-set (l .inv .2), λ t e. turn-group (leafStatus (isIn (a .marks .now))) nodeStatus Free (a .list .now) t e (l .i) (l .stack) (l .top) (c .leaf-status .result) (loop-test .taken) (c .before .if1 .taken) (omega (arith, pre .2)) (λ h. c .leaf-status .ensures) (l .inv .3 t e))
 
 -- an operator finds two operands
 two : (c : tie.Else1 Inv-loop μ-loop) → 2 ≤ c .before .before .before .loop .top
-two c = let a = c .before .before .before .before .before .before .args in let p = c .before .before .before .before .before .before .pre in
-    turn-two (leafStatus (isIn (a .marks .now))) nodeStatus Free (a .list .now) (p .0) (p .1) (c .before .before .before .loop .i) (c .before .before .before .loop .stack) (c .before .before .before .loop .top)
-    (c .before .before .loop-test .taken) (c .if1 .left) (c .before .before .before .loop .inv .3 (p .0) (p .1))
+two c =
+    let loop = c .before .before .before .loop in
+    let a = c .before .before .before .before .before .before .args in let p = c .before .before .before .before .before .before .pre in
+    turn-two (leafStatus (isIn (a .marks .now))) nodeStatus Free (a .list .now) (p .0) (p .1) (loop .i) (loop .stack) (loop .top)
+    (c .before .before .loop-test .taken) (c .if1 .left) (loop .inv .3 (p .0) (p .1))
 
--- src/lib.rt:355:27
 sub-b : tie.Need-sub-b Inv-loop μ-loop
 sub-b c = let h = two c in omega arith
 
--- src/lib.rt:355:21
 mul-b : tie.Need-mul-b Inv-loop μ-loop
-mul-b c = let h = two c in omega (arith, c .before .before .before .before .before .before .pre .2)
+mul-b c =
+    let pre = c .before .before .before .before .before .before .pre in
+    let h = two c in omega (arith, pre .2)
 
--- src/lib.rt:355:21
 array-copy-out-b : tie.Need-array-copy-out-b Inv-loop μ-loop
-array-copy-out-b c = let h = two c in omega (arith, c .before .before .before .before .before .before .pre .2)
+array-copy-out-b c =
+    let pre = c .before .before .before .before .before .before .pre in
+    let h = two c in omega (arith, pre .2)
 
--- src/lib.rt:356:27
 sub-a : tie.Need-sub-a Inv-loop μ-loop
 sub-a c = two (c .before)
 
--- src/lib.rt:356:21
 mul-a : tie.Need-mul-a Inv-loop μ-loop
-mul-a c = let h = two (c .before) in omega (arith, c .before .before .before .before .before .before .before .pre .2)
+mul-a c =
+    let pre = c .before .before .before .before .before .before .before .pre in
+    let h = two (c .before) in omega (arith, pre .2)
 
--- src/lib.rt:356:21
 array-copy-out-a : tie.Need-array-copy-out-a Inv-loop μ-loop
-array-copy-out-a c = let h = two (c .before) in omega (arith, c .before .before .before .before .before .before .before .pre .2)
+array-copy-out-a c =
+    let pre = c .before .before .before .before .before .before .before .pre in
+    let h = two (c .before) in omega (arith, pre .2)
 
--- src/lib.rt:357:17
 merge-requires : tie.Need-merge-requires Inv-loop μ-loop
 merge-requires c κs = tt
 
--- src/lib.rt:358:19
 sub-stack : tie.Need-sub-stack Inv-loop μ-loop
 sub-stack c = two (c .before .before .before)
 
--- src/lib.rt:358:13
 mul-stack-2 : tie.Need-mul-stack-2 Inv-loop μ-loop
-mul-stack-2 c = let h = two (c .before .before .before) in omega (arith, c .before .before .before .before .before .before .before .before .before .pre .2)
+mul-stack-2 c =
+    let pre = c .before .before .before .before .before .before .before .before .before .pre in
+    let h = two (c .before .before .before) in omega (arith, pre .2)
 
--- src/lib.rt:358:13
 array-set-from-stack-2 : tie.Need-array-set-from-stack-2 Inv-loop μ-loop
-array-set-from-stack-2 c = let h = two (c .before .before .before) in omega (arith, c .before .before .before .before .before .before .before .before .before .pre .2)
+array-set-from-stack-2 c =
+    let pre = c .before .before .before .before .before .before .before .before .before .pre in
+    let h = two (c .before .before .before) in omega (arith, pre .2)
 
--- src/lib.rt:359:13
 sub-top : tie.Need-sub-top Inv-loop μ-loop
 sub-top c = let h = two (c .before .before .before) in omega arith
 
--- src/lib.rt:360:13
 add-i-2 : tie.Need-add-i-2 Inv-loop μ-loop
 add-i-2 c = omega arith
 
--- src/lib.rt:347:5
 loop-less-2 : tie.Need-loop-less-2 Inv-loop μ-loop
 loop-less-2 c = omega arith
 
--- src/lib.rt:347:5
 loop-again-2 : tie.Need-loop-again-2 Inv-loop μ-loop
-loop-again-2 c = let l = c .before .before .before .before .before .before .loop in let a = c .before .before .before .before .before .before .before .before .before .args in let h = two (c .before .before .before) in (omega arith, omega arith, simp length-set (l .inv .2), λ t e. turn-operator (leafStatus (isIn (a .marks .now))) nodeStatus Free (a .list .now) t e (l .i) (l .stack) (l .top) (c .merge .result) (c .before .before .before .before .before .loop-test .taken) (c .before .before .before .if1 .left) (omega (arith, c .before .before .before .before .before .before .before .before .before .pre .2)) (λ o q. c .merge .ensures) (l .inv .3 t e))
+loop-again-2 c =
+    let pre = c .before .before .before .before .before .before .before .before .before .pre in
+    let loop-test = c .before .before .before .before .before .loop-test in
+    let if1 = c .before .before .before .if1 in
+    let l = c .before .before .before .before .before .before .loop in let a = c .before .before .before .before .before .before .before .before .before .args in let h = two (c .before .before .before) in (omega arith, omega arith, simp length-set (l .inv .2), λ t e. turn-operator (leafStatus (isIn (a .marks .now))) nodeStatus Free (a .list .now) t e (l .i) (l .stack) (l .top) (c .merge .result) (loop-test .taken) (if1 .left) (omega (arith, pre .2)) (λ o q. c .merge .ensures) (l .inv .3 t e))
 
--- src/lib.rt:363:5
 array-copy-out-result : tie.Need-array-copy-out-result Inv-loop μ-loop
 array-copy-out-result c = search needs
 
--- src/lib.rt:340:1
 returns : tie.Need-returns Inv-loop μ-loop
 returns c = let l = c .before .before .loop in let a = c .before .before .before .before .before .args in λ t e. turn-end (leafStatus (isIn (a .marks .now))) nodeStatus Free (a .list .now) t e (l .i) (l .stack) (l .top) (c .before .loop-test .left) (l .inv .3 t e)
 

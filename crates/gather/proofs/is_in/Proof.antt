@@ -1,5 +1,5 @@
 use mathlib.Core.Path.{_≡_, refl, sym, _∙_}
-use Prim.Native.Nat.{ℕ, _≤_, _-_}
+use Prim.Native.Nat.{_≤_, _-_}
 use native.Mathlib.Omega.{arith}
 use lib.ListN.{length, drop}
 use Rattle.tree.specs.Tree.{isIn}
@@ -15,35 +15,31 @@ Inv-loop list x i₀ i = (i ≤ length list) × (isIn list x ≡ isIn (drop i li
 abbrev μ-loop : tie.MeasureT-loop
 μ-loop list x i₀ i = length list - i
 
--- src/lib.rt:321:5
 loop-holds : tie.Need-loop-holds Inv-loop μ-loop
 loop-holds c = (omega arith, refl)
 
--- src/lib.rt:322:17
 mul-if1 : tie.Need-mul-if1 Inv-loop μ-loop
 mul-if1 c = omega arith
 
--- src/lib.rt:322:17
 shared-slice-read-if1 : tie.Need-shared-slice-read-if1 Inv-loop μ-loop
 shared-slice-read-if1 c = omega arith
 
--- src/lib.rt:323:13
 returns : tie.Need-returns Inv-loop μ-loop
-returns c = sym (c .before .before .before .loop .inv .1 ∙ in-here _ _ _ (c .before .before .loop-test .taken) (c .if1 .taken))
+returns c =
+    let loop = c .before .before .before .loop in
+    sym (loop .inv .1 ∙ in-here _ _ _ (c .before .before .loop-test .taken) (c .if1 .taken))
 
--- src/lib.rt:325:9
 add-i : tie.Need-add-i Inv-loop μ-loop
 add-i c = omega arith
 
--- src/lib.rt:321:5
 loop-less : tie.Need-loop-less Inv-loop μ-loop
 loop-less c = omega arith
 
--- src/lib.rt:321:5
 loop-again : tie.Need-loop-again Inv-loop μ-loop
-loop-again c = (omega arith, c .before .before .before .loop .inv .1 ∙ in-on _ _ _ (c .before .before .loop-test .taken) (c .if1 .left))
+loop-again c =
+    let loop = c .before .before .before .loop in
+    (omega arith, loop .inv .1 ∙ in-on _ _ _ (c .before .before .loop-test .taken) (c .if1 .left))
 
--- src/lib.rt:317:1
 returns-2 : tie.Need-returns-2 Inv-loop μ-loop
 returns-2 c = sym (c .before .loop .inv .1 ∙ in-none _ _ _ (c .loop-test .left))
 

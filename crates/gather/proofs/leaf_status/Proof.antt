@@ -1,4 +1,3 @@
-use mathlib.Core.Path.{sym, _∙_}
 use borrow.Author.Needs.{needs}
 use Rattle.gather.proofs.leaf_status.Statement.{statement}
 use Rattle.gather.proofs.leaf_status.Tie as tie
@@ -6,15 +5,12 @@ use Rattle.gather.proofs.leaf_status.Reads as reads
 use Rattle.gather.proofs.leaf_status.Lts as lts
 use Rattle.gather.proofs.is_in.Reads as is-in-reads
 
--- src/lib.rt:333:8
 is-in-requires : tie.Need-is-in-requires
 is-in-requires c κs = search needs
 
--- src/lib.rt:334:9
 returns : tie.Need-returns
 returns c = rw (← (c .before .is-in .ensures), c .if1 .taken)
 
--- src/lib.rt:330:1
 returns-2 : tie.Need-returns-2
 returns-2 c = rw (← (c .before .is-in .ensures), c .if1 .left)
 

@@ -1,8 +1,4 @@
-use Rattle.tree.specs.Tree.{Tree}
-use mathlib.Core.List.{List}
-use Prim.Native.Nat.{ℕ}
-use Rattle.gather.specs.Answer.{GathersTree}
-use mathlib.Core.Path.{_≡_, sym, subst, _∙_}
+use mathlib.Core.Path.{_≡_, sym}
 use native.Mathlib.Omega.{arith}
 use lib.ListN.{length}
 use lib.Seq.{length-take-le}
@@ -15,33 +11,41 @@ use Rattle.gather.proofs.rearrange.Lts as lts
 use Rattle.gather.proofs.add_groups.Reads as add-groups-reads
 use Rattle.gather.proofs.gather_ordered.Reads as gather-ordered-reads
 
--- src/lib.rt:675:9
 add-groups-requires : tie.Need-add-groups-requires
 add-groups-requires c κs = search needs
 
--- src/lib.rt:676:9
 add-groups-requires-2 : tie.Need-add-groups-requires-2
-add-groups-requires-2 c κs = first-count (faultless _ _ _ (c .before .before .before .before .pre .0)) _ _ (c .add-groups .ensures)
+add-groups-requires-2 c κs =
+    let pre = c .before .before .before .before .pre in
+    first-count (faultless _ _ _ (pre .0)) _ _ (c .add-groups .ensures)
 
--- src/lib.rt:679:26
 array-share-prefix-found : tie.Need-array-share-prefix-found
-array-share-prefix-found c = let e : length (c .before .add-groups2 .result .list) ≡ 8 = search needs in omega (arith, all-count (faultless _ _ _ (c .before .before .before .before .before .before .pre .0)) _ _ (c .before .before .add-groups .ensures) _ _ (c .before .add-groups2 .ensures))
+array-share-prefix-found c =
+    let pre = c .before .before .before .before .before .before .pre in
+    let e : length (c .before .add-groups2 .result .list) ≡ 8 = search needs in omega (arith, all-count (faultless _ _ _ (pre .0)) _ _ (c .before .before .add-groups .ensures) _ _ (c .before .add-groups2 .ensures))
 
--- src/lib.rt:679:26
 slice-aggregate-gather-ordered : tie.Need-slice-aggregate-gather-ordered
-slice-aggregate-gather-ordered c = let e : length (c .before .before .add-groups2 .result .list) ≡ 8 = search needs in sym (length-take-le _ _ (omega (arith, all-count (faultless _ _ _ (c .before .before .before .before .before .before .before .pre .0)) _ _ (c .before .before .before .add-groups .ensures) _ _ (c .before .before .add-groups2 .ensures))))
+slice-aggregate-gather-ordered c =
+    let pre = c .before .before .before .before .before .before .before .pre in
+    let add-groups = c .before .before .before .add-groups in
+    let e : length (c .before .before .add-groups2 .result .list) ≡ 8 = search needs in sym (length-take-le _ _ (omega (arith, all-count (faultless _ _ _ (pre .0)) _ _ (add-groups .ensures) _ _ (c .before .before .add-groups2 .ensures))))
 
--- src/lib.rt:679:5
 gather-ordered-requires : tie.Need-gather-ordered-requires
-gather-ordered-requires c κs = let f = faultless _ _ _ (c .before .before .before .before .before .before .before .before .pre .0) in (faultless-list f, (ordered f _ _ (c .before .before .before .before .add-groups .ensures) _ _ (c .before .before .before .add-groups2 .ensures) (c .before .before .before .before .before .before .before .before .pre .1), f .space))
+gather-ordered-requires c κs =
+    let pre = c .before .before .before .before .before .before .before .before .pre in
+    let add-groups = c .before .before .before .before .add-groups in
+    let add-groups2 = c .before .before .before .add-groups2 in
+    let f = faultless _ _ _ (pre .0) in (faultless-list f, (ordered f _ _ (add-groups .ensures) _ _ (add-groups2 .ensures) (pre .1), f .space))
 
--- src/lib.rt:669:1
 same-length : tie.Need-same-length
 same-length c = search needs
 
--- src/lib.rt:669:1
 returns : tie.Need-returns
-returns c = λ t q. rw (marks-first (faultless _ _ _ (c .before .before .before .before .before .before .before .before .before .before .before .pre .0)) _ _ (c .before .before .before .before .before .before .before .add-groups .ensures) _ _ (c .before .before .before .before .before .before .add-groups2 .ensures)) at (c .before .before .gather-ordered .ensures t (the-same q))
+returns c =
+    let pre = c .before .before .before .before .before .before .before .before .before .before .before .pre in
+    let add-groups = c .before .before .before .before .before .before .before .add-groups in
+    let add-groups2 = c .before .before .before .before .before .before .add-groups2 in
+    λ t q. rw (marks-first (faultless _ _ _ (pre .0)) _ _ (add-groups .ensures) _ _ (add-groups2 .ensures)) at (c .before .before .gather-ordered .ensures t (the-same q))
 
 pub rearrange-spec : {M : Type 1} → statement M
 rearrange-spec =

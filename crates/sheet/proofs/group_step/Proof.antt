@@ -17,13 +17,18 @@ faulty-requires : tie.Need-faulty-requires
 faulty-requires c κs = search needs
 
 returns : tie.Need-returns
-returns c = λ st ms r h. stepped-faulty h (Group (c .before .before .before .before .before .args .g)) _ _ _ _ _ _ (c .faulty .ensures) (fault-group h _ ∙ order-first _ _ _ (c .before .before .order-fault .ensures) (c .before .if1 .taken)) (c .before .if1 .taken)
+returns c =
+    let args = c .before .before .before .before .before .args in
+    λ st ms r h. stepped-faulty h (Group (args .g)) _ _ _ _ _ _ (c .faulty .ensures) (fault-group h _ ∙ order-first _ _ _ (c .before .before .order-fault .ensures) (c .before .if1 .taken)) (c .before .if1 .taken)
 
 faulty-requires-2 : tie.Need-faulty-requires-2
 faulty-requires-2 c κs = search needs
 
 returns-2 : tie.Need-returns-2
-returns-2 c = λ st ms r h. stepped-faulty h (Group (c .before .before .before .before .before .before .args .g)) _ _ _ _ _ _ (c .faulty2 .ensures) (fault-group h _ ∙ (order-second _ _ _ (c .before .before .before .order-fault .ensures) (c .before .before .if1 .left) ∙ rw (le-leb _ _ (c .before .if2 .taken)))) (λ z. omega arith)
+returns-2 c =
+    let args = c .before .before .before .before .before .before .args in
+    let order-fault = c .before .before .before .order-fault in
+    λ st ms r h. stepped-faulty h (Group (args .g)) _ _ _ _ _ _ (c .faulty2 .ensures) (fault-group h _ ∙ (order-second _ _ _ (order-fault .ensures) (c .before .before .if1 .left) ∙ rw (le-leb _ _ (c .before .if2 .taken)))) (λ z. omega arith)
 
 add-q : tie.Need-add-q
 add-q c = search needs
@@ -38,7 +43,9 @@ slice-reshare-prefix-is-in : tie.Need-slice-reshare-prefix-is-in
 slice-reshare-prefix-is-in c = search needs
 
 slice-aggregate-is-in : tie.Need-slice-aggregate-is-in
-slice-aggregate-is-in c = sym (length-take-le _ _ (different-few (c .before .before .before .before .before .before .before .before .pre .1 .1 .1)))
+slice-aggregate-is-in c =
+    let pre = c .before .before .before .before .before .before .before .before .pre in
+    sym (length-take-le _ _ (different-few (pre .1 .1 .1)))
 
 is-in-requires : tie.Need-is-in-requires
 is-in-requires c κs = search needs
@@ -56,8 +63,13 @@ same-length-2 : tie.Need-same-length-2
 same-length-2 c = search needs
 
 returns-3 : tie.Need-returns-3
-returns-3 c = λ st ms r h. let i = sym (c .before .is-in .ensures) ∙ c .if3 .taken in
-    stepped-group-old h (c .before .before .before .before .before .before .before .before .before .before .args .g) _ r (fault-group h _ ∙ (order-second _ _ _ (c .before .before .before .before .before .before .before .order-fault .ensures) (c .before .before .before .before .before .before .if1 .left) ∙ rw (lt-leb _ _ (c .before .before .before .before .before .if2 .left), i))) i
+returns-3 c =
+    let args = c .before .before .before .before .before .before .before .before .before .before .args in
+    let order-fault = c .before .before .before .before .before .before .before .order-fault in
+    let if1 = c .before .before .before .before .before .before .if1 in
+    let if2 = c .before .before .before .before .before .if2 in
+    λ st ms r h. let i = sym (c .before .is-in .ensures) ∙ c .if3 .taken in
+    stepped-group-old h (args .g) _ r (fault-group h _ ∙ (order-second _ _ _ (order-fault .ensures) (if1 .left) ∙ rw (lt-leb _ _ (if2 .left), i))) i
 
 faulty-requires-3 : tie.Need-faulty-requires-3
 faulty-requires-3 c κs = search needs
@@ -66,8 +78,14 @@ same-length-3 : tie.Need-same-length-3
 same-length-3 c = search needs
 
 returns-4 : tie.Need-returns-4
-returns-4 c = λ st ms r h. let i = sym (c .before .before .before .is-in .ensures) ∙ c .before .before .if3 .left in
-    stepped-faulty h (Group (c .before .before .before .before .before .before .before .before .before .before .before .before .args .g)) _ _ _ _ _ _ (c .faulty3 .ensures) (fault-group h _ ∙ (order-second _ _ _ (c .before .before .before .before .before .before .before .before .before .order-fault .ensures) (c .before .before .before .before .before .before .before .before .if1 .left) ∙ rw (lt-leb _ _ (c .before .before .before .before .before .before .before .if2 .left), i, le-leb mostGroups (c .before .before .before .before .before .before .before .before .before .before .before .before .args .p .different) (omega arith)))) (λ z. omega arith)
+returns-4 c =
+    let args = c .before .before .before .before .before .before .before .before .before .before .before .before .args in
+    let order-fault = c .before .before .before .before .before .before .before .before .before .order-fault in
+    let if1 = c .before .before .before .before .before .before .before .before .if1 in
+    let if2 = c .before .before .before .before .before .before .before .if2 in
+    let is-in = c .before .before .before .is-in in
+    λ st ms r h. let i = sym (is-in .ensures) ∙ c .before .before .if3 .left in
+    stepped-faulty h (Group (args .g)) _ _ _ _ _ _ (c .faulty3 .ensures) (fault-group h _ ∙ (order-second _ _ _ (order-fault .ensures) (if1 .left) ∙ rw (lt-leb _ _ (if2 .left), i, le-leb mostGroups (args .p .different) (omega arith)))) (λ z. omega arith)
 
 mul-tree-2 : tie.Need-mul-tree-2
 mul-tree-2 c = search needs
@@ -91,8 +109,13 @@ same-length-5 : tie.Need-same-length-5
 same-length-5 c = search needs
 
 returns-5 : tie.Need-returns-5
-returns-5 c = λ st ms r h. let i = sym (c .before .before .is-in .ensures) ∙ c .before .if3 .left in
-    stepped-group-new h (c .before .before .before .before .before .before .before .before .before .before .before .args .g) _ r (fault-group h _ ∙ (order-second _ _ _ (c .before .before .before .before .before .before .before .before .order-fault .ensures) (c .before .before .before .before .before .before .before .if1 .left) ∙ rw (lt-leb _ _ (c .before .before .before .before .before .before .if2 .left), i, lt-leb mostGroups (c .before .before .before .before .before .before .before .before .before .before .before .args .p .different) (omega arith)))) i
+returns-5 c =
+    let args = c .before .before .before .before .before .before .before .before .before .before .before .args in
+    let order-fault = c .before .before .before .before .before .before .before .before .order-fault in
+    let if1 = c .before .before .before .before .before .before .before .if1 in
+    let if2 = c .before .before .before .before .before .before .if2 in
+    λ st ms r h. let i = sym (c .before .before .is-in .ensures) ∙ c .before .if3 .left in
+    stepped-group-new h (args .g) _ r (fault-group h _ ∙ (order-second _ _ _ (order-fault .ensures) (if1 .left) ∙ rw (lt-leb _ _ (if2 .left), i, lt-leb mostGroups (args .p .different) (omega arith)))) i
 
 pub group-step-spec : {M : Type 1} → statement M
 group-step-spec =

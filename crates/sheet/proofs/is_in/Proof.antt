@@ -26,7 +26,9 @@ shared-slice-read-if1 c = search needs
 
 returns : tie.Need-returns Inv-loop μ-loop
 unfolding isIn
-returns c = rw (c .before .before .before .loop .inv .1, here _ _ (c .before .before .loop-test .taken)) (search tests)
+returns c =
+    let loop = c .before .before .before .loop in
+    rw (loop .inv .1, here _ _ (c .before .before .loop-test .taken)) (search tests)
 
 add-i : tie.Need-add-i Inv-loop μ-loop
 add-i c = search needs
@@ -36,7 +38,9 @@ loop-less c = search needs
 
 loop-again : tie.Need-loop-again Inv-loop μ-loop
 unfolding isIn
-loop-again c = (search needs, c .before .before .before .loop .inv .1 ∙ rw (here _ _ (c .before .before .loop-test .taken)) (search tests))
+loop-again c =
+    let loop = c .before .before .before .loop in
+    (search needs, loop .inv .1 ∙ rw (here _ _ (c .before .before .loop-test .taken)) (search tests))
 
 returns-2 : tie.Need-returns-2 Inv-loop μ-loop
 unfolding isIn

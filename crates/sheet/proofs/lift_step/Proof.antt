@@ -22,7 +22,9 @@ add-q-2 : tie.Need-add-q-2
 add-q-2 c = search needs
 
 returns-2 : tie.Need-returns-2
-returns-2 c = λ most st q n after es gs ms h. stepped-lift h q n after (fault-lift h q n ∙ order-second _ _ _ (c .before .before .before .order-fault .ensures) (c .before .before .if1 .left))
+returns-2 c =
+    let order-fault = c .before .before .before .order-fault in
+    λ most st q n after es gs ms h. stepped-lift h q n after (fault-lift h q n ∙ order-second _ _ _ (order-fault .ensures) (c .before .before .if1 .left))
 
 pub lift-step-spec : {M : Type 1} → statement M
 lift-step-spec =

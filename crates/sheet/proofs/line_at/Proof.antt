@@ -44,9 +44,12 @@ add-t15 : tie.Need-add-t15
 add-t15 c = search needs
 
 returns-3 : tie.Need-returns-3
-returns-3 c = let s = c .before .before .before .before .before .before .before .args .sheet .now in let at = c .before .before .before .before .before .before .before .args .at in let k = c .before .before .before .find .result in
+returns-3 c =
+    let args = c .before .before .before .before .before .before .before .args in
+    let find = c .before .before .before .find in
+    let s = args .sheet .now in let at = args .at in let k = find .result in
     ap (λ (l : Line). record { line = l; next = at + k + 1 }) (rw rest-all at (c .line-of .ensures))
-    ∙ sym (line-whole s at k (rw rest-all at (c .before .before .before .find .ensures .0)) (omega (arith, rw rest-all at (c .before .before .before .find .ensures .1), rw rest-all at (c .before .before .if2 .left))))
+    ∙ sym (line-whole s at k (rw rest-all at (find .ensures .0)) (omega (arith, rw rest-all at (find .ensures .1), rw rest-all at (c .before .before .if2 .left))))
 
 pub line-at-spec : {M : Type 1} → statement M
 line-at-spec =

@@ -12,7 +12,9 @@ find-requires : tie.Need-find-requires
 find-requires c κs = search needs
 
 returns : tie.Need-returns
-returns c = sym (line-none _ (ahead-most tab (c .before .before .before .args .bytes .now)) (λ e. c .if1 .taken (c .before .find .ensures .0 ∙ e)))
+returns c =
+    let args = c .before .before .before .args in
+    sym (line-none _ (ahead-most tab (args .bytes .now)) (λ e. c .if1 .taken (c .before .find .ensures .0 ∙ e)))
 
 shared-slice-read-bare-line : tie.Need-shared-slice-read-bare-line
 shared-slice-read-bare-line c = search needs
@@ -21,7 +23,10 @@ bare-line-requires : tie.Need-bare-line-requires
 bare-line-requires c κs = search needs
 
 returns-2 : tie.Need-returns-2
-returns-2 c = c .bare-line .ensures ∙ sym (line-bare _ (sym (c .before .before .before .before .find .ensures .0) ∙ c .before .before .before .if1 .left) (c .before .before .if2 .taken))
+returns-2 c =
+    let find = c .before .before .before .before .find in
+    let if1 = c .before .before .before .if1 in
+    c .bare-line .ensures ∙ sym (line-bare _ (sym (find .ensures .0) ∙ if1 .left) (c .before .before .if2 .taken))
 
 shared-slice-read-fielded-line : tie.Need-shared-slice-read-fielded-line
 shared-slice-read-fielded-line c = search needs
@@ -39,7 +44,10 @@ fielded-line-requires : tie.Need-fielded-line-requires
 fielded-line-requires c κs = search needs
 
 returns-3 : tie.Need-returns-3
-returns-3 c = rw rest-all at (c .fielded-line .ensures) ∙ sym (line-fields _ (sym (c .before .before .before .before .before .find .ensures .0) ∙ c .before .before .before .before .if1 .left) (omega arith))
+returns-3 c =
+    let find = c .before .before .before .before .before .find in
+    let if1 = c .before .before .before .before .if1 in
+    rw rest-all at (c .fielded-line .ensures) ∙ sym (line-fields _ (sym (find .ensures .0) ∙ if1 .left) (omega arith))
 
 pub line-of-spec : {M : Type 1} → statement M
 line-of-spec =

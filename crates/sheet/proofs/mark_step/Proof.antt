@@ -18,14 +18,19 @@ no-fault : (c : tie.After-struct-known) (most : ℕ) (st : State) (es : List ℕ
     → Holds most st (c .before .before .before .before .before .before .before .before .before .before .before .args .p) es (c .before .before .before .before .before .before .before .before .before .before .before .args .groups .now) (c .before .before .before .before .before .before .before .before .before .before .before .args .marks .now)
     → faultOf most st (Mark (c .before .before .before .before .before .before .before .before .before .before .before .args .g)) ≡ 0
 no-fault c most st es h =
-    let i = sym (c .before .before .before .before .before .is-in .ensures) ∙ c .before .before .before .before .if2 .taken in
+    let order-fault = c .before .before .before .before .before .before .before .before .order-fault in
+    let if1 = c .before .before .before .before .before .before .before .if1 in
+    let is-in = c .before .before .before .before .before .is-in in
+    let if2 = c .before .before .before .before .if2 in
+    let i = sym (is-in .ensures) ∙ if2 .taken in
     let j = sym (c .before .before .is-in2 .ensures) ∙ c .before .if3 .left in
-    fault-mark h _ ∙ (order-second _ _ _ (c .before .before .before .before .before .before .before .before .order-fault .ensures) (c .before .before .before .before .before .before .before .if1 .left) ∙ rw (i, j))
+    fault-mark h _ ∙ (order-second _ _ _ (order-fault .ensures) (if1 .left) ∙ rw (i, j))
 
 room : (c : tie.After-struct-known)
     → c .before .before .before .before .before .before .before .before .before .before .before .args .p .marked < length (c .before .before .before .before .before .before .before .before .before .before .before .args .marks .now)
 room c =
-    let q = c .before .before .before .before .before .before .before .before .before .before .before .pre .1 in
+    let pre = c .before .before .before .before .before .before .before .before .before .before .before .pre in
+    let q = pre .1 in
     mark-room (q .2 .1) _ (no-fault c (q .0) (q .2 .0) (q .1) (q .2 .1))
 
 order-fault-requires : tie.Need-order-fault-requires
@@ -35,19 +40,27 @@ faulty-requires : tie.Need-faulty-requires
 faulty-requires c κs = search needs
 
 returns : tie.Need-returns
-returns c = λ most st after es h. stepped-faulty h (Mark (c .before .before .before .before .before .args .g)) _ _ _ _ _ _ (c .faulty .ensures) (fault-mark h _ ∙ order-first _ _ _ (c .before .before .order-fault .ensures) (c .before .if1 .taken)) (c .before .if1 .taken)
+returns c =
+    let args = c .before .before .before .before .before .args in
+    λ most st after es h. stepped-faulty h (Mark (args .g)) _ _ _ _ _ _ (c .faulty .ensures) (fault-mark h _ ∙ order-first _ _ _ (c .before .before .order-fault .ensures) (c .before .if1 .taken)) (c .before .if1 .taken)
 
 slice-aggregate-is-in : tie.Need-slice-aggregate-is-in
-slice-aggregate-is-in c = sym (length-take-le _ _ (different-few (c .before .before .before .before .before .pre .1 .2 .1)))
+slice-aggregate-is-in c =
+    let pre = c .before .before .before .before .before .pre in
+    sym (length-take-le _ _ (different-few (pre .1 .2 .1)))
 
 is-in-requires : tie.Need-is-in-requires
 is-in-requires c κs = search needs
 
 slice-reshare-prefix-is-in : tie.Need-slice-reshare-prefix-is-in
-slice-reshare-prefix-is-in c = marked-few (c .before .before .before .before .before .before .before .pre .1 .2 .1)
+slice-reshare-prefix-is-in c =
+    let pre = c .before .before .before .before .before .before .before .pre in
+    marked-few (pre .1 .2 .1)
 
 slice-aggregate-is-in-2 : tie.Need-slice-aggregate-is-in-2
-slice-aggregate-is-in-2 c = sym (length-take-le _ _ (marked-few (c .before .before .before .before .before .before .before .before .pre .1 .2 .1)))
+slice-aggregate-is-in-2 c =
+    let pre = c .before .before .before .before .before .before .before .before .pre in
+    sym (length-take-le _ _ (marked-few (pre .1 .2 .1)))
 
 is-in-requires-2 : tie.Need-is-in-requires-2
 is-in-requires-2 c κs = search needs
@@ -59,17 +72,27 @@ same-length : tie.Need-same-length
 same-length c = search needs
 
 returns-2 : tie.Need-returns-2
-returns-2 c = λ most st after es h. let i = sym (c .before .before .before .before .before .is-in .ensures) ∙ c .before .before .before .before .if2 .taken in let j = sym (c .before .before .is-in2 .ensures) ∙ c .before .if3 .taken in
-    stepped-faulty h (Mark (c .before .before .before .before .before .before .before .before .before .before .before .args .g)) _ _ _ _ _ _ (c .faulty2 .ensures) (fault-mark h _ ∙ (order-second _ _ _ (c .before .before .before .before .before .before .before .before .order-fault .ensures) (c .before .before .before .before .before .before .before .if1 .left) ∙ rw (i, j))) (λ z. omega arith)
+returns-2 c =
+    let args = c .before .before .before .before .before .before .before .before .before .before .before .args in
+    let order-fault = c .before .before .before .before .before .before .before .before .order-fault in
+    let if1 = c .before .before .before .before .before .before .before .if1 in
+    let is-in = c .before .before .before .before .before .is-in in
+    let if2 = c .before .before .before .before .if2 in
+    λ most st after es h. let i = sym (is-in .ensures) ∙ if2 .taken in let j = sym (c .before .before .is-in2 .ensures) ∙ c .before .if3 .taken in
+    stepped-faulty h (Mark (args .g)) _ _ _ _ _ _ (c .faulty2 .ensures) (fault-mark h _ ∙ (order-second _ _ _ (order-fault .ensures) (if1 .left) ∙ rw (i, j))) (λ z. omega arith)
 
 add-q : tie.Need-add-q
 add-q c = search needs
 
 add-q-2 : tie.Need-add-q-2
-add-q-2 c = omega (arith, room c, marks-long (c .before .before .before .before .before .before .before .before .before .before .before .pre .1 .2 .1))
+add-q-2 c =
+    let pre = c .before .before .before .before .before .before .before .before .before .before .before .pre in
+    omega (arith, room c, marks-long (pre .1 .2 .1))
 
 mul-marks : tie.Need-mul-marks
-mul-marks c = omega (arith, room c, marks-long (c .before .before .before .before .before .before .before .before .before .before .before .pre .1 .2 .1))
+mul-marks c =
+    let pre = c .before .before .before .before .before .before .before .before .before .before .before .pre in
+    omega (arith, room c, marks-long (pre .1 .2 .1))
 
 slice-write-marks : tie.Need-slice-write-marks
 slice-write-marks c = room c
@@ -78,14 +101,20 @@ same-length-2 : tie.Need-same-length-2
 same-length-2 c = search needs
 
 returns-3 : tie.Need-returns-3
-returns-3 c = λ most st after es h. stepped-mark h (c .before .before .before .before .before .before .before .before .before .before .before .args .g) after (no-fault c most st es h)
+returns-3 c =
+    let args = c .before .before .before .before .before .before .before .before .before .before .before .args in
+    λ most st after es h. stepped-mark h (args .g) after (no-fault c most st es h)
 
 faulty-requires-3 : tie.Need-faulty-requires-3
 faulty-requires-3 c κs = search needs
 
 returns-4 : tie.Need-returns-4
-returns-4 c = λ most st after es h. let i = sym (c .before .before .is-in .ensures) ∙ c .before .if2 .left in
-    stepped-faulty h (Mark (c .before .before .before .before .before .before .before .before .args .g)) _ _ _ _ _ _ (c .faulty3 .ensures) (fault-mark h _ ∙ (order-second _ _ _ (c .before .before .before .before .before .order-fault .ensures) (c .before .before .before .before .if1 .left) ∙ rw i)) (λ z. omega arith)
+returns-4 c =
+    let args = c .before .before .before .before .before .before .before .before .args in
+    let order-fault = c .before .before .before .before .before .order-fault in
+    let if1 = c .before .before .before .before .if1 in
+    λ most st after es h. let i = sym (c .before .before .is-in .ensures) ∙ c .before .if2 .left in
+    stepped-faulty h (Mark (args .g)) _ _ _ _ _ _ (c .faulty3 .ensures) (fault-mark h _ ∙ (order-second _ _ _ (order-fault .ensures) (if1 .left) ∙ rw i)) (λ z. omega arith)
 
 pub mark-step-spec : {M : Type 1} → statement M
 mark-step-spec =

@@ -18,10 +18,14 @@ is-group-requires-2 : tie.Need-is-group-requires-2
 is-group-requires-2 c κs = search needs
 
 returns-3 : tie.Need-returns-3
-returns-3 c = λ o e. let g = sym (c .before .is-group2 .ensures) ∙ c .if4 .taken in rw g at (one-mark _ _ o e (c .before .before .before .if1 .left) (c .before .before .if3 .taken))
+returns-3 c =
+    let if1 = c .before .before .before .if1 in
+    λ o e. let g = sym (c .before .is-group2 .ensures) ∙ c .if4 .taken in rw g at (one-mark _ _ o e (if1 .left) (c .before .before .if3 .taken))
 
 returns-4 : tie.Need-returns-4
-returns-4 c = λ o e. let g = sym (c .before .is-group2 .ensures) ∙ c .if4 .left in rw g at (one-mark _ _ o e (c .before .before .before .if1 .left) (c .before .before .if3 .taken))
+returns-4 c =
+    let if1 = c .before .before .before .if1 in
+    λ o e. let g = sym (c .before .is-group2 .ensures) ∙ c .if4 .left in rw g at (one-mark _ _ o e (if1 .left) (c .before .before .if3 .taken))
 
 returns-5 : tie.Need-returns-5
 returns-5 c = λ o e. one-other _ o (c .before .if1 .left) (c .if3 .left)

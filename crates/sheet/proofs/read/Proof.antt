@@ -19,13 +19,19 @@ refusal-requires : tie.Need-refusal-requires
 refusal-requires c κs = search needs
 
 returns : tie.Need-returns
-returns c = c .refusal .ensures ∙ gives-refused mostSheetNodes (reading (c .before .before .before .before .before .before .before .before .before .args .sheet .now)) (c .before .before .before .before .before .read-lines .result) _ _ (c .before .before .before .before .before .read-lines .ensures) (c .before .if1 .taken)
+returns c =
+    let args = c .before .before .before .before .before .before .before .before .before .args in
+    let read-lines = c .before .before .before .before .before .read-lines in
+    c .refusal .ensures ∙ gives-refused mostSheetNodes (reading (args .sheet .now)) (read-lines .result) _ _ (read-lines .ensures) (c .before .if1 .taken)
 
 acceptance-requires : tie.Need-acceptance-requires
 acceptance-requires c κs = search needs
 
 returns-2 : tie.Need-returns-2
-returns-2 c = c .acceptance .ensures ∙ gives-accepted (reading (c .before .before .before .before .before .before .before .before .before .args .sheet .now)) (c .before .before .before .before .before .read-lines .result) _ _ (c .before .before .before .before .before .read-lines .ensures) (c .before .if1 .left)
+returns-2 c =
+    let args = c .before .before .before .before .before .before .before .before .before .args in
+    let read-lines = c .before .before .before .before .before .read-lines in
+    c .acceptance .ensures ∙ gives-accepted (reading (args .sheet .now)) (read-lines .result) _ _ (read-lines .ensures) (c .before .if1 .left)
 
 pub read-spec : {M : Type 1} → statement M
 read-spec =

@@ -20,77 +20,129 @@ abbrev μ-loop : tie.MeasureT-loop
 
 -- after a line's step: the line at the byte, and what the step did
 one-read : (c : tie.After-step Inv-loop μ-loop) → OneLine 0 (c .before .before .before .before .before .before .before .before .before .before .before .args .sheet .now) (c .before .before .before .before .before .before .loop .at) (c .before .before .before .before .line-at .result)
-one-read c = rw (← c .before .before .before .before .line-at .ensures) at (one-line 0 (c .before .before .before .before .before .before .before .before .before .before .before .args .sheet .now) (c .before .before .before .before .before .before .loop .at) (c .before .before .before .before .before .loop-test .taken))
+one-read c =
+    let args = c .before .before .before .before .before .before .before .before .before .before .before .args in
+    let loop = c .before .before .before .before .before .before .loop in
+    let loop-test = c .before .before .before .before .before .loop-test in
+    let line-at = c .before .before .before .before .line-at in
+    rw (← line-at .ensures) at (one-line 0 (args .sheet .now) (loop .at) (loop-test .taken))
 
 stepped : (c : tie.After-step Inv-loop μ-loop)
     → let s = c .before .before .before .before .before .before .before .before .before .before .before .args .sheet .now in let at = c .before .before .before .before .before .before .loop .at in
     Stepped (length (c .before .before .before .before .before .before .before .before .before .before .before .args .tree .now)) (c .before .before .before .before .before .before .loop .inv .3 .st) (lineAt s at .line) (lineAt s at .next) (c .before .before .before .before .before .before .loop .p) (c .step .result)
     (c .step .last .1 .1 .1 .0) (c .step .last .1 .1 .1 .1 .0) (c .step .last .1 .1 .1 .1 .1 .0)
 stepped c =
-    let s = c .before .before .before .before .before .before .before .before .before .before .before .args .sheet .now in
-    let at = c .before .before .before .before .before .before .loop .at in
-    let R = c .before .before .before .before .before .before .loop .inv .3 in
-    let e = c .before .before .before .before .line-at .ensures in
-    rw e at (stepped-own (c .before .before .before .before .line-at .result .line) (c .before .before .before .before .line-at .result .next) (R .held) (c .step .ensures (R .st) (rw e (line-at-range s at)) (held-own (R .held))))
+    let args = c .before .before .before .before .before .before .before .before .before .before .before .args in
+    let loop = c .before .before .before .before .before .before .loop in
+    let line-at = c .before .before .before .before .line-at in
+    let s = args .sheet .now in
+    let at = loop .at in
+    let R = loop .inv .3 in
+    let e = line-at .ensures in
+    rw e at (stepped-own (line-at .result .line) (line-at .result .next) (R .held) (c .step .ensures (R .st) (rw e (line-at-range s at)) (held-own (R .held))))
 
 marks-were : (c : tie.After-step Inv-loop μ-loop) → length (c .before .before .before .before .before .before .loop .marks) ≡ length (c .before .before .before .before .before .before .before .before .before .before .before .args .marks .now)
-marks-were c = marks-long (c .before .before .before .before .before .before .loop .inv .3 .held) ∙ sym (ap length (c .before .before .before .before .before .before .before .before .before .before .before .pre .1))
+marks-were c =
+    let pre = c .before .before .before .before .before .before .before .before .before .before .before .pre in
+    let loop = c .before .before .before .before .before .before .loop in
+    marks-long (loop .inv .3 .held) ∙ sym (ap length (pre .1))
 
 returns : tie.Need-returns Inv-loop μ-loop
 returns c = rw (read-long _ _ (c .if1 .taken)) (refl, refl, λ z. omega arith)
 
 loop-holds : tie.Need-loop-holds Inv-loop μ-loop
-loop-holds c = (c .if1 .left, omega arith, omega arith, running-blank _ _ _ _ (c .before .before .before .before .pre .0) (c .before .before .before .before .pre .1) (c .if1 .left))
+loop-holds c =
+    let pre = c .before .before .before .before .pre in
+    (c .if1 .left, omega arith, omega arith, running-blank _ _ _ _ (pre .0) (pre .1) (c .if1 .left))
 
 line-at-requires : tie.Need-line-at-requires Inv-loop μ-loop
 line-at-requires c κs = tt
 
 slice-aggregate-step : tie.Need-slice-aggregate-step Inv-loop μ-loop
-slice-aggregate-step c = sym (groups-long (c .before .before .before .before .loop .inv .3 .held))
+slice-aggregate-step c =
+    let loop = c .before .before .before .before .loop in
+    sym (groups-long (loop .inv .3 .held))
 
 step-requires : tie.Need-step-requires Inv-loop μ-loop
-step-requires c κs = (omega (arith, c .before .before .before .before .before .loop .inv .0, c .before .before .before .before .before .loop .inv .2, c .before .before .before .before .loop-test .taken), (c .before .before .before .before .before .loop .inv .3 .st, held-own (c .before .before .before .before .before .loop .inv .3 .held)))
+step-requires c κs =
+    let loop = c .before .before .before .before .before .loop in
+    let loop-test = c .before .before .before .before .loop-test in
+    (omega (arith, loop .inv .0, loop .inv .2, loop-test .taken), (loop .inv .3 .st, held-own (loop .inv .3 .held)))
 
 same-length : tie.Need-same-length Inv-loop μ-loop
-same-length c = c .before .before .before .before .before .before .before .step .kept .1 .1 .1 .0 ∙ tree-long (c .before .before .before .before .before .before .before .before .before .before .before .before .before .loop .inv .3 .held)
+same-length c =
+    let loop = c .before .before .before .before .before .before .before .before .before .before .before .before .before .loop in
+    let step = c .before .before .before .before .before .before .before .step in
+    step .kept .1 .1 .1 .0 ∙ tree-long (loop .inv .3 .held)
 
 same-length-2 : tie.Need-same-length-2 Inv-loop μ-loop
-same-length-2 c = c .before .before .before .before .before .before .before .step .kept .1 .1 .1 .1 .1 .0 ∙ marks-were (c .before .before .before .before .before .before .before)
+same-length-2 c =
+    let step = c .before .before .before .before .before .before .before .step in
+    let before = c .before .before .before .before .before .before .before in
+    step .kept .1 .1 .1 .1 .1 .0 ∙ marks-were before
 
 returns-2 : tie.Need-returns-2 Inv-loop μ-loop
-returns-2 c = rw (running-refused (c .before .before .before .before .before .before .before .before .before .before .before .before .before .loop .inv .3) (c .before .before .before .before .before .before .before .before .before .before .before .before .loop-test .taken) (stepped (c .before .before .before .before .before .before .before)) (c .if2 .taken)) (refl, refl, c .if2 .taken)
+returns-2 c =
+    let loop = c .before .before .before .before .before .before .before .before .before .before .before .before .before .loop in
+    let loop-test = c .before .before .before .before .before .before .before .before .before .before .before .before .loop-test in
+    let before = c .before .before .before .before .before .before .before in
+    rw (running-refused (loop .inv .3) (loop-test .taken) (stepped before) (c .if2 .taken)) (refl, refl, c .if2 .taken)
 
 loop-less : tie.Need-loop-less Inv-loop μ-loop
-loop-less c = omega (arith, one-read (c .before .before .before .before .before .before .before) .more, one-read (c .before .before .before .before .before .before .before) .within, c .before .before .before .before .before .before .before .before .before .before .before .before .loop-test .taken)
+loop-less c =
+    let loop-test = c .before .before .before .before .before .before .before .before .before .before .before .before .loop-test in
+    let before = c .before .before .before .before .before .before .before in
+    omega (arith, one-read before .more, one-read before .within, loop-test .taken)
 
 loop-again : tie.Need-loop-again Inv-loop μ-loop
-loop-again c = (
-  c .before .before .before .before .before .before .before .before .before .before .before .before .before .loop .inv .0,
-  one-read (c .before .before .before .before .before .before .before) .within,
-  omega (arith, one-read (c .before .before .before .before .before .before .before) .more, stepped (c .before .before .before .before .before .before .before) .counted, c .before .before .before .before .before .before .before .before .before .before .before .before .before .loop .inv .2),
-  rw (c .before .before .before .before .before .before .before .before .before .before .before .line-at .ensures) (running-next (c .before .before .before .before .before .before .before .before .before .before .before .before .before .loop .inv .3) (c .before .before .before .before .before .before .before .before .before .before .before .before .loop-test .taken) (stepped (c .before .before .before .before .before .before .before)) (c .if2 .left)),
-)
+loop-again c =
+    let loop = c .before .before .before .before .before .before .before .before .before .before .before .before .before .loop in
+    let loop-test = c .before .before .before .before .before .before .before .before .before .before .before .before .loop-test in
+    let line-at = c .before .before .before .before .before .before .before .before .before .before .before .line-at in
+    let before = c .before .before .before .before .before .before .before in (
+      loop .inv .0,
+      one-read before .within,
+      omega (arith, one-read before .more, stepped before .counted, loop .inv .2),
+      rw (line-at .ensures) (running-next (loop .inv .3) (loop-test .taken) (stepped before) (c .if2 .left)),
+    )
 
 same-length-3 : tie.Need-same-length-3 Inv-loop μ-loop
-same-length-3 c = tree-long (c .before .before .before .loop .inv .3 .held)
+same-length-3 c =
+    let loop = c .before .before .before .loop in
+    tree-long (loop .inv .3 .held)
 
 same-length-4 : tie.Need-same-length-4 Inv-loop μ-loop
-same-length-4 c = marks-long (c .before .before .before .loop .inv .3 .held) ∙ sym (ap length (c .before .before .before .before .before .before .before .before .pre .1))
+same-length-4 c =
+    let pre = c .before .before .before .before .before .before .before .before .pre in
+    let loop = c .before .before .before .loop in
+    marks-long (loop .inv .3 .held) ∙ sym (ap length (pre .1))
 
 returns-3 : tie.Need-returns-3 Inv-loop μ-loop
-returns-3 c = let R = c .before .before .before .loop .inv .3 in rw (running-accepted R (c .before .before .loop-test .left) (c .if3 .taken)) (holds-gives (R .held))
+returns-3 c =
+    let loop = c .before .before .before .loop in
+    let R = loop .inv .3 in rw (running-accepted R (c .before .before .loop-test .left) (c .if3 .taken)) (holds-gives (R .held))
 
 faulty-requires : tie.Need-faulty-requires Inv-loop μ-loop
-faulty-requires c κs = omega (arith, c .before .before .before .loop .inv .0, c .before .before .before .loop .inv .1, c .before .before .before .loop .inv .2)
+faulty-requires c κs =
+    let loop = c .before .before .before .loop in
+    omega (arith, loop .inv .0, loop .inv .1, loop .inv .2)
 
 same-length-5 : tie.Need-same-length-5 Inv-loop μ-loop
-same-length-5 c = tree-long (c .before .before .before .before .loop .inv .3 .held)
+same-length-5 c =
+    let loop = c .before .before .before .before .loop in
+    tree-long (loop .inv .3 .held)
 
 same-length-6 : tie.Need-same-length-6 Inv-loop μ-loop
-same-length-6 c = marks-long (c .before .before .before .before .loop .inv .3 .held) ∙ sym (ap length (c .before .before .before .before .before .before .before .before .before .pre .1))
+same-length-6 c =
+    let pre = c .before .before .before .before .before .before .before .before .before .pre in
+    let loop = c .before .before .before .before .loop in
+    marks-long (loop .inv .3 .held) ∙ sym (ap length (pre .1))
 
 returns-4 : tie.Need-returns-4 Inv-loop μ-loop
-returns-4 c = let R = c .before .before .before .before .loop .inv .3 in rw (running-open R (c .before .before .before .loop-test .left) (c .before .if3 .left)) (c .faulty .ensures .0, c .faulty .ensures .1, λ z. omega arith)
+returns-4 c =
+    let loop = c .before .before .before .before .loop in
+    let loop-test = c .before .before .before .loop-test in
+    let R = loop .inv .3 in rw (running-open R (loop-test .left) (c .before .if3 .left)) (c .faulty .ensures .0, c .faulty .ensures .1, λ z. omega arith)
 
 pub read-lines-spec : {M : Type 1} → statement M
 read-lines-spec =

@@ -1,0 +1,25 @@
+use Rattle.tree.proofs.WritingLaws.{wrote-then}
+use borrow.Author.Needs.{needs}
+use Rattle.builder.proofs.put3.Statement.{statement}
+use Rattle.builder.proofs.put3.Tie as tie
+use Rattle.builder.proofs.put3.Reads as reads
+use Rattle.builder.proofs.put3.Lts as lts
+use Rattle.builder.proofs.put1.Reads as put1-reads
+use Rattle.builder.proofs.put2.Reads as put2-reads
+
+put2-requires : tie.Need-put2-requires
+put2-requires c κs = search needs
+
+put1-requires : tie.Need-put1-requires
+put1-requires c κs = search needs
+
+same-length : tie.Need-same-length
+same-length c = search needs
+
+returns : tie.Need-returns
+returns c =
+    let put2 = c .before .before .before .before .before .before .put2 in
+    wrote-then (put2 .ensures) (c .before .before .put1 .ensures)
+
+pub put3-spec : {M : Type 1} → statement M
+put3-spec = tie.close (tie.spec put2-requires put1-requires same-length returns)

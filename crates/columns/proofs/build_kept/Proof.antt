@@ -1,0 +1,72 @@
+use native.Mathlib.Omega.{arith}
+use Rattle.tree.specs.Tree.{difference, sign}
+use Rattle.builder.proofs.EmitLaws.{between-short}
+use Rattle.columns.proofs.BuildLaws.{others-segment, marks-segment, past, wrote-union, second-ends}
+use borrow.Author.Needs.{needs}
+use Rattle.columns.proofs.build_kept.Statement.{statement}
+use Rattle.columns.proofs.build_kept.Tie as tie
+use Rattle.columns.proofs.build_kept.Reads as reads
+use Rattle.columns.proofs.build_kept.Lts as lts
+use Rattle.builder.proofs.emit.Reads as emit-reads
+use Rattle.builder.proofs.operate.Reads as operate-reads
+
+emit-requires : tie.Need-emit-requires
+emit-requires c κs =
+    let pre = c .before .before .before .before .pre in
+    let r = pre .0 in (others-segment r _ (r .low-below), omega (arith, r .space))
+
+emit-requires-2 : tie.Need-emit-requires-2
+emit-requires-2 c κs =
+    let pre = c .before .before .before .before .before .before .before .before .pre in
+    let emit = c .before .before .before .emit in
+    let r = pre .0 in (marks-segment r, omega (arith, r .space, emit .ensures .most, emit .ensures .wrote .same))
+
+emit-requires-3 : tie.Need-emit-requires-3
+emit-requires-3 c κs =
+    let pre = c .before .before .before .before .before .before .before .before .before .before .before .before .pre in
+    let emit = c .before .before .before .before .before .before .before .emit in
+    let emit2 = c .before .before .before .emit2 in
+    let r = pre .0 in (others-segment r _ (r .high-below), omega (arith, r .space, emit2 .ensures .most, emit2 .ensures .wrote .same, emit .ensures .most, emit .ensures .wrote .same))
+
+operate-requires : tie.Need-operate-requires
+operate-requires c κs = search needs
+
+operate-requires-2 : tie.Need-operate-requires-2
+operate-requires-2 c κs =
+    let pre = c .before .before .before .before .before .before .before .before .before .before .before .before .before .before .before .before .before .before .before .before .pre in
+    let emit = c .before .before .before .before .before .before .before .before .before .before .before .before .before .before .before .emit in
+    let emit2 = c .before .before .before .before .before .before .before .before .before .before .before .emit2 in
+    let emit3 = c .before .before .before .before .before .before .before .emit3 in
+    let operate = c .before .before .before .operate in
+    let r = pre .0 in omega (arith, r .space, operate .ensures .ends, operate .ensures .same, between-short (emit .result) (emit2 .result) (emit3 .result) (sign difference), emit3 .ensures .most, emit3 .ensures .wrote .same, emit2 .ensures .most, emit2 .ensures .wrote .same, emit .ensures .most, emit .ensures .wrote .same)
+
+sub-t25 : tie.Need-sub-t25
+sub-t25 c =
+    let pre = c .before .before .before .before .before .before .before .before .before .before .before .before .before .before .before .before .before .before .before .before .before .before .before .pre in
+    let emit2 = c .before .before .before .before .before .before .before .before .before .before .before .before .before .before .emit2 in
+    past (pre .1) (emit2 .ensures)
+
+same-length : tie.Need-same-length
+same-length c = search needs
+
+returns : tie.Need-returns
+returns c =
+    let pre = c .before .before .before .before .before .before .before .before .before .before .before .before .before .before .before .before .before .before .before .before .before .before .before .pre in
+    let emit = c .before .before .before .before .before .before .before .before .before .before .before .before .before .before .before .before .before .before .emit in
+    let emit2 = c .before .before .before .before .before .before .before .before .before .before .before .before .before .before .emit2 in
+    let emit3 = c .before .before .before .before .before .before .before .before .before .before .emit3 in
+    let operate = c .before .before .before .before .before .before .operate in
+    let f = emit .ensures in let g = emit2 .ensures in let h = emit3 .ensures in record { wrote = wrote-union f g h (operate .ensures) (pre .1) (c .before .before .operate2 .ensures); held = second-ends f g h (operate .ensures) (pre .1) }
+
+pub build-kept-spec : {M : Type 1} → statement M
+build-kept-spec =
+    tie.close
+    (tie.spec
+    emit-requires
+    emit-requires-2
+    emit-requires-3
+    operate-requires
+    operate-requires-2
+    sub-t25
+    same-length
+    returns)

@@ -1,0 +1,58 @@
+use mathlib.Core.Path.{_≡_, refl, sym, _∙_}
+use mathlib.Core.Bool.{false}
+use Prim.Native.Nat.{ℕ, _≤_, _<_, _-_}
+use native.Mathlib.Omega.{arith}
+use borrow.Author.Count.{below-more}
+use lib.ListN.{length, getD, length-set}
+use lib.Seq.{getD-set-same, getD-set-other, ext-getD}
+use Rattle.tree.specs.Tree.{Tree, postfix}
+use Rattle.table.specs.Table.{valueAt, table}
+use Rattle.table.proofs.TableLaws.{length-table, table-at}
+use Rattle.table.proofs.table.Statement.{statement}
+use Rattle.table.proofs.table.Tie as tie
+use Rattle.table.proofs.table.Reads as reads
+use Rattle.table.proofs.table.Lts as lts
+use Rattle.table.proofs.eval.Reads as eval-reads
+
+abbrev Inv-loop : tie.InvT-loop
+Inv-loop list groups rows₀ row₀ rows row = (row ≤ 256) × (length rows ≡ 256) × ((t : Tree) → list ≡ postfix t → (i : ℕ) → i < row → getD rows i false ≡ valueAt groups t i)
+
+abbrev μ-loop : tie.MeasureT-loop
+μ-loop list groups rows₀ row₀ rows row = 256 - row
+
+loop-holds : tie.Need-loop-holds Inv-loop μ-loop
+loop-holds c = (omega arith, refl, λ t e i h. absurd (omega arith))
+
+eval-requires : tie.Need-eval-requires Inv-loop μ-loop
+eval-requires c κs =
+    let pre = c .before .before .before .before .pre in
+    pre
+
+array-write-rows : tie.Need-array-write-rows Inv-loop μ-loop
+array-write-rows c = omega arith
+
+add-row : tie.Need-add-row Inv-loop μ-loop
+add-row c = omega arith
+
+loop-less : tie.Need-loop-less Inv-loop μ-loop
+loop-less c = omega arith
+
+loop-again : tie.Need-loop-again Inv-loop μ-loop
+loop-again c = let l = c .before .before .loop in (omega arith, simp length-set (l .inv .1), λ t e. below-more _ (l .row) (λ k h. getD-set-other (l .rows) (l .row) k (c .eval .result) false (omega arith) ∙ l .inv .2 t e k h) (getD-set-same (l .rows) (l .row) (c .eval .result) false (omega arith) ∙ c .eval .ensures t e))
+
+returns : tie.Need-returns Inv-loop μ-loop
+returns c = let l = c .before .loop in let a = c .before .before .before .before .args in λ t e. ext-getD false (l .rows) (table (a .groups .now) t) (l .inv .1 ∙ sym (length-table (a .groups .now) t)) (λ i h. l .inv .2 t e i (omega arith) ∙ sym (table-at (a .groups .now) t i (omega arith)))
+
+pub table-spec : {M : Type 1} → statement M
+table-spec =
+    tie.close
+    (tie.spec
+    Inv-loop
+    μ-loop
+    loop-holds
+    eval-requires
+    array-write-rows
+    add-row
+    loop-less
+    loop-again
+    returns)
