@@ -8,7 +8,7 @@ use native.Mathlib.Omega.{arith}
 use borrow.Author.Tests.{ltb-false}
 use lib.Dec.{ltb}
 use lib.ListN.{length, take, drop, replicate, length-append}
-use Rattle.tree.specs.Tree.{Tree, postfix, size, mostNodes, leaves, isIn, groups}
+use Rattle.tree.specs.Tree.{postfix, size, mostNodes}
 use Rattle.tree.specs.Writing.{over, Wrote}
 use Rattle.tree.proofs.WritingLaws.{wrote-then, wrote-as, wrote-over}
 use Rattle.tree.proofs.TreeLaws.{postfix-length}
@@ -16,17 +16,15 @@ use Rattle.tree.proofs.GroupLaws.{groups-leaves}
 use Rattle.text.specs.Parts.{split}
 use Rattle.text.specs.Line.{line, lines, lineFeed}
 use Rattle.text.proofs.LineLaws.{lines-append}
-use Rattle.sheet.specs.Reading.{mostBytes, mostSheetNodes, LiftLine, State, Outcome, accepted, refused, blank, run, readWithin, reading, answer, mostGroups}
+use Rattle.sheet.specs.Reading.{mostBytes, mostSheetNodes, State, Outcome, accepted, refused, blank, run, readWithin, reading, answer, mostGroups}
 use Rattle.sheet.specs.declared.Sheet.{Sheet}
 use Rattle.sheet.proofs.AcceptedLaws.{accepted-sheet, answered-tree, answered-marks, number-accepted, number-refused}
 use Rattle.sheet.specs.Accepted.{Accepted}
-use Rattle.lift.proofs.LiftLaws.{Keeps}
 use Rattle.key.specs.Key.{NO, Key, answers, refusal, text, liftRows, heldRows, instructionRows}
 use Rattle.key.specs.Lifting.{treeAfter, liftAnswers}
-use Rattle.key.specs.Keyed.{keyBytes, KeyFor, Meets, WrittenKey, Keys}
-use Rattle.key.specs.Inner.{liftBytes, heldBytes, instructionBytes, IsList, Markable, Asked, LiftedAll, Finished, Answered}
+use Rattle.key.specs.Keyed.{keyBytes, KeyFor, Meets, Keys}
+use Rattle.key.specs.Inner.{liftBytes, IsList, Markable, Asked, LiftedAll, Finished, Answered}
 use Rattle.key.specs.declared.Progress.{Progress}
-use Rattle.key.specs.declared.Keyed.{Keyed}
 use Rattle.key.specs.declared.Keyed.the-variants.{Written, Short}
 use Rattle.key.proofs.AskingLaws.{lifts-few}
 use Rattle.key.proofs.LiftingLaws.{after-keeps}

@@ -3,10 +3,10 @@ use mathlib.Core.Path.{_≡_, refl, sym, ap, _∙_}
 use mathlib.Core.Bool.{Bool, true, false, not, cond, _&&_, true≢false}
 use mathlib.Core.List.{List, [], _∷_, _++_}
 use mathlib.Core.Option.{Option, some, none}
-use Prim.Native.Nat.{ℕ, _+_, _-_, _*_, _≤_, _<_}
+use Prim.Native.Nat.{ℕ, _+_, _*_, _≤_}
 use native.Mathlib.Omega.{arith}
 use borrow.Author.Tests.{eqb-true, ltb-true}
-use lib.Dec.{eqb, leb, ltb}
+use lib.Dec.{eqb, ltb}
 use lib.ListN.{length, drop, length-append, length-drop}
 use Rattle.tree.specs.Tree.{isGroup, union, difference, sign}
 use Rattle.text.specs.Decimal.{decimal, value, leadingZero, allDigits}
@@ -15,10 +15,9 @@ use Rattle.text.specs.Line.{tab, lineFeed}
 use Rattle.text.proofs.PartsLaws.{join-split}
 use Rattle.sheet.specs.Form.{letterG, letterU, letterD, letterL, letterK, letterE, isPosition, isLevels, letterOf, ranged, bare, oneNumber, twoNumbers, formOf, lineOf, firstLine, lineAt}
 use Rattle.sheet.specs.Reading.{LiftLine}
-use Rattle.sheet.specs.Accepted.{LiftRange, LiftsTo}
+use Rattle.sheet.specs.Accepted.{LiftsTo}
 use Rattle.sheet.specs.declared.Line.{Line}
 use Rattle.sheet.specs.declared.Line.the-variants.{Group, Operator, Lift, Mark, End, Bad}
-use Rattle.sheet.specs.declared.LineAt.{LineAt}
 
 differ : {X : Type 0} → _≡_ {A = ℕ} 0 1 → X
 differ e = absurd (omega arith)

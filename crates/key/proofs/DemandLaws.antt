@@ -1,29 +1,25 @@
 -- The third demand holds of every key that answers an accepted sheet.
 use mathlib.Core.Path.{_≡_, refl, sym, ap, subst, _∙_, fun-ext}
-use mathlib.Core.Bool.{Bool, false}
-use mathlib.Core.List.{List, [], _∷_, _++_}
+use mathlib.Core.Bool.{Bool}
+use mathlib.Core.List.{List, [], _++_}
 use Prim.Native.Nat.{ℕ, _≤_}
 use native.Mathlib.Omega.{arith}
 use lib.ListN.{length, drop}
-use Rattle.tree.specs.Tree.{Tree, size, mostNodes, Over, Equivalent, Rig, selected, isIn}
+use Rattle.tree.specs.Tree.{Tree, size, mostNodes, Equivalent, isIn}
 use Rattle.tree.specs.Context.{plug}
 use Rattle.tree.proofs.TreeLaws.{equivalent-refl, equivalent-sym, equivalent-trans}
 use Rattle.player.specs.Limits.{registerCount, byteCount}
-use Rattle.player.specs.Instructions.{Instruction, numbersOf}
+use Rattle.player.specs.Instructions.{Instruction}
 use Rattle.player.specs.Patches.{rig}
 use Rattle.player.specs.Bytes.{bytes}
-use Rattle.player.specs.Playing.{wrongPairCount, wrongPatch, Plays}
-use Rattle.player.specs.declared.Played.{Played}
-use Rattle.player.specs.declared.Played.the-variants.{Done}
 use Rattle.coder.specs.Code.{code, codePlace, runFirst, runCount}
 use Rattle.coder.specs.Effects.{Every, Names, ClosedRun, LoadsApart}
 use Rattle.coder.proofs.Theorems.{thirteen-suffice, closed-run, loads-apart, code-lights}
-use Rattle.gather.specs.Gathering.{Gathered, CannotBeGathered}
-use Rattle.lift.proofs.LiftLaws.{Keeps}
-use Rattle.key.specs.Key.{LiftAnswer, Held, unmarked, heldRun, cannot, Key, answers}
+use Rattle.gather.specs.Gathering.{CannotBeGathered}
+use Rattle.key.specs.Key.{LiftAnswer, Held, unmarked, heldRun, cannot, answers}
 use Rattle.sheet.specs.Reading.{LiftLine}
 use Rattle.key.specs.Lifting.{treeAfter, liftAnswers}
-use Rattle.key.specs.Answering.{HeldCode, Ends, AnswersSheet}
+use Rattle.key.specs.Answering.{HeldCode, AnswersSheet}
 use Rattle.key.specs.Demand.{CodeOf, HolderRun, Lights, Demand3}
 use Rattle.key.proofs.LiftingLaws.{after-keeps}
 

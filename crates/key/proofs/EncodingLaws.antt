@@ -1,20 +1,19 @@
 -- What `encode` and `gather` leave, for a tree that the caller has.
-use mathlib.Core.Path.{_≡_, refl, sym, ap, subst, _∙_}
-use mathlib.Core.Bool.{Bool}
-use mathlib.Core.List.{List, [], _++_}
-use Prim.Native.Nat.{ℕ, _+_, _*_, _≤_, _<_}
+use mathlib.Core.Path.{_≡_, sym, ap, _∙_}
+use mathlib.Core.List.{List}
+use Prim.Native.Nat.{ℕ, _*_, _≤_}
 use native.Mathlib.Omega.{arith}
 use borrow.Author.Tests.{le-ltb}
 use lib.ListN.{length, take, drop, replicate, length-append, length-replicate}
 use lib.Seq.{take-at}
-use Rattle.tree.specs.Tree.{Tree, postfix, size, mostNodes}
+use Rattle.tree.specs.Tree.{Tree, size, mostNodes}
 use Rattle.tree.specs.Writing.{over}
 use Rattle.tree.proofs.ParseLaws.{tree-of-postfix}
 use Rattle.text.specs.Line.{lines}
-use Rattle.player.specs.Instructions.{Instruction, numbersOf, instructions}
+use Rattle.player.specs.Instructions.{Instruction}
 use Rattle.player.specs.Laws.{numbers-length, instructions-numbers}
 use Rattle.coder.specs.Code.{code, codeNumbers}
-use Rattle.coder.specs.Coding.{leastBuffer, reply, Encodes}
+use Rattle.coder.specs.Coding.{leastBuffer, Encodes}
 use Rattle.coder.specs.declared.Coded.{Coded}
 use Rattle.coder.specs.declared.Coded.the-variants.{Done, Refused}
 use Rattle.coder.proofs.Theorems.{code-length, code-well-formed}

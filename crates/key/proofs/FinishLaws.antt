@@ -1,32 +1,29 @@
 -- What follows the lifts: the code of the tree that they leave, or the HELD line and the code of the gathered tree.
 use mathlib.Core.Path.{_≡_, refl, sym, ap, subst, _∙_}
-use mathlib.Core.Bool.{Bool, true, cond}
-use mathlib.Core.List.{List, [], _∷_, _++_, append-nil}
-use mathlib.Core.Option.{some}
-use Prim.Native.Nat.{ℕ, _+_, _-_, _*_, _≤_, _<_}
+use mathlib.Core.Bool.{Bool}
+use mathlib.Core.List.{List, [], _∷_, append-nil}
+use Prim.Native.Nat.{ℕ, _*_, _≤_, _<_}
 use native.Mathlib.Omega.{arith}
 use borrow.Author.Tests.{lt-ltb}
 use lib.ListN.{length, take, drop, length-append}
 use Rattle.tree.specs.Tree.{Tree, postfix, size, mostNodes, isIn}
-use Rattle.tree.specs.Context.{Frame, plug, position, Place}
+use Rattle.tree.specs.Context.{plug, position}
 use Rattle.tree.specs.Parse.{treeOf, locate}
-use Rattle.tree.specs.Writing.{over, Wrote}
+use Rattle.tree.specs.Writing.{Wrote}
 use Rattle.tree.proofs.TreeLaws.{postfix-length, size-positive}
 use Rattle.tree.proofs.ContextLaws.{locate-plug, position-most}
 use Rattle.tree.proofs.ParseLaws.{tree-of-postfix}
 use Rattle.tree.proofs.WritingLaws.{wrote-then, wrote-as}
 use Rattle.text.specs.Line.{line, lines}
-use Rattle.text.proofs.LineLaws.{lines-append}
 use Rattle.coder.specs.Code.{code, codePlace, runFirst, runCount}
-use Rattle.coder.specs.Coding.{firstFor, countFor, IsRun}
+use Rattle.coder.specs.Coding.{IsRun}
 use Rattle.coder.specs.declared.Run.{Run}
 use Rattle.coder.proofs.Theorems.{code-length, code-well-formed, closed-run}
 use Rattle.gather.specs.Gathering.{Gathered, CannotBeGathered}
 use Rattle.gather.specs.Answer.{fault, GatheredTo, GathersTree, Gathers}
 use Rattle.gather.specs.declared.Gathering.{Gathering}
 use Rattle.gather.specs.declared.Gathering.the-variants.{Done, Refused}
-use Rattle.key.specs.Key.{Held, unmarked, heldRun, cannot, HELD, row, heldRows, instructionRows}
-use Rattle.key.specs.Answering.{HeldCode, Ends}
+use Rattle.key.specs.Key.{unmarked, heldRun, cannot, HELD, instructionRows}
 use Rattle.key.specs.Inner.{heldBytes, instructionBytes, IsList, Markable, Finished}
 use Rattle.key.proofs.PrintingLaws.{code-most, held-most, never-most}
 use Rattle.key.proofs.EncodingLaws.{take-over}

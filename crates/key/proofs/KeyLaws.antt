@@ -1,16 +1,16 @@
 -- From a key's bytes its lifts, its HELD line and its instructions can be read back uniquely: the lines can (text's law),
 -- and from the lines `decode` gives the key back.
-use mathlib.Core.Path.{_≡_, refl, sym, ap, ap₂, _∙_}
-use mathlib.Core.Bool.{Bool, true, false, cond}
+use mathlib.Core.Path.{_≡_, refl, sym, ap, _∙_}
+use mathlib.Core.Bool.{cond}
 use mathlib.Core.List.{List, [], _∷_, _++_}
 use Prim.Native.Nat.{ℕ}
 use lib.Dec.{eqb}
 use lib.ListN.{getD}
 use Rattle.tree.specs.Tree.{isIn}
-use Rattle.text.specs.Line.{Row, lines, Plain, AllPlain}
+use Rattle.text.specs.Line.{Row, AllPlain}
 use Rattle.text.proofs.LineLaws.{lines-unique}
 use Rattle.player.specs.Instructions.{Instruction, load, add, cut}
-use Rattle.key.specs.Key.{LiftAnswer, Held, unmarked, heldRun, cannot, Key, refusal, answers, NO, LIFT, HELD, LOAD, ADD, CUT, row, liftRow, liftRows, heldRows, instructionRow, instructionRows, rowsOf, text}
+use Rattle.key.specs.Key.{LiftAnswer, Held, unmarked, heldRun, cannot, Key, refusal, answers, liftRows, heldRows, instructionRows, rowsOf, text}
 
 -- ---- no word of a key has a tab or an LF
 instruction-plain : (is : List Instruction) → AllPlain (instructionRows is)

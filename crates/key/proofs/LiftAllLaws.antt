@@ -1,5 +1,5 @@
 -- The loop over the lifts: after i of them, what is written and what is left to write from the present tree make up the whole.
-use mathlib.Core.Path.{_≡_, refl, sym, ap, subst, _∙_}
+use mathlib.Core.Path.{_≡_, refl, sym, ap, _∙_}
 use mathlib.Core.Logic.{_⊎_, inl, inr}
 use mathlib.Core.List.{List, [], _∷_, _++_}
 use Prim.Native.Nat.{ℕ, suc, _+_, _-_, _*_, _≤_, _<_}
@@ -7,10 +7,9 @@ use native.Mathlib.Omega.{arith}
 use lib.ListN.{length, take}
 use Rattle.tree.specs.Tree.{Tree, mostNodes}
 use Rattle.text.specs.Line.{lines}
-use Rattle.sheet.specs.Form.{mostPosition, mostLevels, lineAt}
+use Rattle.sheet.specs.Form.{lineAt}
 use Rattle.sheet.specs.Reading.{LiftLine}
 use Rattle.sheet.specs.Accepted.{LiftRange, LiftsTo}
-use Rattle.sheet.specs.declared.Line.{Line}
 use Rattle.sheet.specs.declared.Line.the-variants.{Lift}
 use Rattle.key.specs.Key.{liftRow, liftRows, rowText}
 use Rattle.key.specs.Lifting.{lifting, treeLeft, answerFor, treeAfter, liftAnswers}

@@ -1,7 +1,7 @@
 -- What a call of `lift` says, for a tree that the caller has: the definition's result, and what its line needs.
 use mathlib.Core.Path.{_≡_, refl, sym, ap, subst, _∙_}
-use mathlib.Core.List.{List, [], _∷_, _++_}
-use Prim.Native.Nat.{ℕ, _+_, _*_, _≤_, _<_}
+use mathlib.Core.List.{List, [], _∷_}
+use Prim.Native.Nat.{ℕ, _≤_}
 use native.Mathlib.Omega.{arith}
 use lib.ListN.{length, take, drop, length-append}
 use lib.Seq.{length-take-le}
@@ -16,10 +16,9 @@ use Rattle.lift.specs.Lift.{Result, refused, lifted, liftOf}
 use Rattle.lift.specs.Answer.{answer, buffer}
 use Rattle.lift.specs.declared.Lifted.{Lifted}
 use Rattle.lift.specs.declared.Lifted.the-variants.{Done, Refused}
-use Rattle.key.specs.Key.{LIFT, liftRow, rowText}
-use Rattle.key.specs.Lifting.{lifting, treeLeft, answerFor}
+use Rattle.key.specs.Key.{LIFT}
+use Rattle.key.specs.Lifting.{lifting, treeLeft}
 use Rattle.key.specs.Inner.{liftBytes, IsList, LiftedOne}
-use Rattle.key.specs.declared.Progress.{Progress}
 use Rattle.key.proofs.PrintingLaws.{lift-most}
 use Rattle.key.proofs.LiftingLaws.{lift-of-tree, left-keeps, lifted-bounded, refused-bounded}
 use Rattle.key.proofs.EncodingLaws.{take-over}

@@ -1,5 +1,5 @@
 -- What a list of lifts keeps of the tree as written: what it selects, the groups of its leaves, and the limit.
-use mathlib.Core.Path.{_≡_, refl, sym, ap, subst, _∙_}
+use mathlib.Core.Path.{_≡_, refl, sym, subst, _∙_}
 use mathlib.Core.Bool.{Bool, true, false, cond, _||_}
 use mathlib.Core.List.{List, [], _∷_}
 use mathlib.Core.Option.{some}
@@ -9,9 +9,9 @@ use borrow.Author.Tests.{le-ltb, ltb-false, leb-false}
 use lib.Dec.{eqb, leb, ltb}
 use lib.ListN.{length}
 use native.Mathlib.Omega.{arith}
-use Rattle.tree.specs.Tree.{Tree, node, postfix, size, mostNodes, Over, Equivalent}
-use Rattle.tree.specs.Context.{left, right, Frame, frame, plug, Place}
-use Rattle.tree.specs.Parse.{treeOf, locate}
+use Rattle.tree.specs.Tree.{Tree, node, postfix, size, mostNodes}
+use Rattle.tree.specs.Context.{left, right, Frame, frame, plug}
+use Rattle.tree.specs.Parse.{locate}
 use Rattle.tree.proofs.TreeLaws.{equivalent-refl, equivalent-trans}
 use Rattle.tree.proofs.ContextLaws.{located-whole, position-most}
 use Rattle.tree.proofs.ParseLaws.{tree-of-postfix}

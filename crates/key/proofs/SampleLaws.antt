@@ -4,7 +4,7 @@ use mathlib.Core.Path.{refl}
 use mathlib.Core.List.{[], _∷_}
 use native.Mathlib.Omega.{arith}
 use Rattle.tree.specs.Tree.{Tree, leaf, node, union, difference, postfix, size, selects, Over, leaves, isIn, collect}
-use Rattle.tree.specs.Context.{Frame, frame, left, right, plug, before, OverAbove}
+use Rattle.tree.specs.Context.{frame, left, right, plug, before, OverAbove}
 use Rattle.tree.specs.Pass.{entryOf, pass}
 use Rattle.tree.specs.Parse.{parse, treeOf, locate}
 use Rattle.lift.specs.Step.{step}

@@ -7,7 +7,7 @@ use Rattle.tree.specs.Tree.{Tree, size, mostNodes, Over, Equivalent, isIn, grou
 use Rattle.player.specs.Instructions.{Instruction}
 use Rattle.coder.specs.Code.{code, runFirst, runCount}
 use Rattle.gather.specs.Gathering.{Gathered, CannotBeGathered}
-use Rattle.key.specs.Key.{LiftAnswer, Held, unmarked, heldRun, cannot, Key, refusal, answers}
+use Rattle.key.specs.Key.{Held, unmarked, heldRun, cannot, Key, refusal, answers}
 use Rattle.sheet.specs.Reading.{LiftLine}
 use Rattle.key.specs.Lifting.{treeAfter, liftAnswers}
 

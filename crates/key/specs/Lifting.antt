@@ -1,7 +1,6 @@
 -- Document 01, "The key program": the lifts of a sheet, in order.
 use mathlib.Core.List.{List, [], _∷_}
 use mathlib.Core.Option.{some}
-use Prim.Native.Nat.{ℕ}
 use Rattle.tree.specs.Tree.{Tree}
 use Rattle.sheet.specs.Reading.{LiftLine}
 use Rattle.lift.specs.Lift.{Result, refused, lifted, liftIn}

@@ -3,9 +3,6 @@ use borrow.Author.Tests.{eq-eqb, ne-eqb}
 use borrow.Author.Needs.{needs}
 use Rattle.builder.proofs.operate.Statement.{statement}
 use Rattle.builder.proofs.operate.Tie as tie
-use Rattle.builder.proofs.operate.Reads as reads
-use Rattle.builder.proofs.operate.Lts as lts
-use Rattle.builder.proofs.put1.Reads as put1-reads
 
 returns : tie.Need-returns
 returns c = rw (eq-eqb _ _ (c .if1 .taken)) (wrote-nothing _ _)

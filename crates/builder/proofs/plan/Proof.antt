@@ -1,9 +1,6 @@
 use borrow.Author.Needs.{needs}
 use Rattle.builder.proofs.plan.Statement.{statement}
 use Rattle.builder.proofs.plan.Tie as tie
-use Rattle.builder.proofs.plan.Reads as reads
-use Rattle.builder.proofs.plan.Lts as lts
-use Rattle.builder.proofs.within.Reads as within-reads
 
 element-copy-out-base : tie.Need-element-copy-out-base
 element-copy-out-base c = search needs

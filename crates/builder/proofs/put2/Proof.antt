@@ -2,9 +2,6 @@ use Rattle.tree.proofs.WritingLaws.{wrote-then}
 use borrow.Author.Needs.{needs}
 use Rattle.builder.proofs.put2.Statement.{statement}
 use Rattle.builder.proofs.put2.Tie as tie
-use Rattle.builder.proofs.put2.Reads as reads
-use Rattle.builder.proofs.put2.Lts as lts
-use Rattle.builder.proofs.put1.Reads as put1-reads
 
 put1-requires : tie.Need-put1-requires
 put1-requires c κs = search needs

@@ -2,10 +2,6 @@ use Rattle.tree.proofs.WritingLaws.{wrote-then}
 use borrow.Author.Needs.{needs}
 use Rattle.builder.proofs.put3.Statement.{statement}
 use Rattle.builder.proofs.put3.Tie as tie
-use Rattle.builder.proofs.put3.Reads as reads
-use Rattle.builder.proofs.put3.Lts as lts
-use Rattle.builder.proofs.put1.Reads as put1-reads
-use Rattle.builder.proofs.put2.Reads as put2-reads
 
 put2-requires : tie.Need-put2-requires
 put2-requires c κs = search needs

@@ -1,13 +1,11 @@
 use mathlib.Core.Path.{_≡_, refl, sym, _∙_}
-use Prim.Native.Nat.{_+_, _-_, _*_, _<_}
+use Prim.Native.Nat.{_+_, _*_, _<_}
 use native.Mathlib.Omega.{arith}
 use Rattle.builder.specs.Building.{within}
 use Rattle.table.specs.Table.{rowsOf}
 use Rattle.builder.proofs.EmitLaws.{within-end, within-stop, within-turn, times-less}
 use Rattle.builder.proofs.within.Statement.{statement}
 use Rattle.builder.proofs.within.Tie as tie
-use Rattle.builder.proofs.within.Reads as reads
-use Rattle.builder.proofs.within.Lts as lts
 
 abbrev Inv-loop : tie.InvT-loop
 Inv-loop t base a b step count i₀ j₀ left₀ i j left = (within (rowsOf t) base i j step left ≡ within (rowsOf t) base a b step count) × (i + step * left < 256 + step) × (j + step * left < 256 + step)

@@ -5,10 +5,6 @@ use native.Mathlib.Omega.{arith}
 use borrow.Author.Needs.{needs}
 use Rattle.builder.proofs.write_closing.Statement.{statement}
 use Rattle.builder.proofs.write_closing.Tie as tie
-use Rattle.builder.proofs.write_closing.Reads as reads
-use Rattle.builder.proofs.write_closing.Lts as lts
-use Rattle.builder.proofs.operate.Reads as operate-reads
-use Rattle.builder.proofs.outer.Reads as outer-reads
 
 sub-group : tie.Need-sub-group
 sub-group c = search needs

@@ -3,11 +3,6 @@ use borrow.Author.Tests.{eq-eqb, ne-eqb}
 use borrow.Author.Needs.{needs}
 use Rattle.builder.proofs.write_opening.Statement.{statement}
 use Rattle.builder.proofs.write_opening.Tie as tie
-use Rattle.builder.proofs.write_opening.Reads as reads
-use Rattle.builder.proofs.write_opening.Lts as lts
-use Rattle.builder.proofs.put1.Reads as put1-reads
-use Rattle.builder.proofs.put2.Reads as put2-reads
-use Rattle.builder.proofs.put3.Reads as put3-reads
 
 enum-told : tie.Need-enum-told
 enum-told c = search needs

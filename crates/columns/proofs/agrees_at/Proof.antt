@@ -2,8 +2,6 @@ use native.Mathlib.Nat.{mod-le}
 use borrow.Author.Needs.{needs}
 use Rattle.columns.proofs.agrees_at.Statement.{statement}
 use Rattle.columns.proofs.agrees_at.Tie as tie
-use Rattle.columns.proofs.agrees_at.Reads as reads
-use Rattle.columns.proofs.agrees_at.Lts as lts
 
 rem-p : tie.Need-rem-p
 rem-p c = search needs

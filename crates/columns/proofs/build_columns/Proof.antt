@@ -3,12 +3,6 @@ use Rattle.columns.proofs.BuildLaws.{joined-removed, joined-kept, joine
 use borrow.Author.Needs.{needs}
 use Rattle.columns.proofs.build_columns.Statement.{statement}
 use Rattle.columns.proofs.build_columns.Tie as tie
-use Rattle.columns.proofs.build_columns.Reads as reads
-use Rattle.columns.proofs.build_columns.Lts as lts
-use Rattle.columns.proofs.build_kept.Reads as build-kept-reads
-use Rattle.columns.proofs.build_nested.Reads as build-nested-reads
-use Rattle.columns.proofs.build_removed.Reads as build-removed-reads
-use Rattle.columns.proofs.varying.Reads as varying-reads
 
 element-copy-out-held : tie.Need-element-copy-out-held
 element-copy-out-held c = search needs

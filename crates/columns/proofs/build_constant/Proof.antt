@@ -3,11 +3,6 @@ use Rattle.columns.proofs.BuildLaws.{others-segment, wrote-constant}
 use borrow.Author.Needs.{needs}
 use Rattle.columns.proofs.build_constant.Statement.{statement}
 use Rattle.columns.proofs.build_constant.Tie as tie
-use Rattle.columns.proofs.build_constant.Reads as reads
-use Rattle.columns.proofs.build_constant.Lts as lts
-use Rattle.builder.proofs.emit.Reads as emit-reads
-use Rattle.builder.proofs.operate.Reads as operate-reads
-use Rattle.builder.proofs.put3.Reads as put3-reads
 
 emit-requires : tie.Need-emit-requires
 emit-requires c κs = let r = c .before .before .before .before .pre in (others-segment r 0 (r .low-below), omega (arith, r .space))

@@ -5,10 +5,6 @@ use Rattle.columns.proofs.BuildLaws.{others-segment, marks-segment, not
 use borrow.Author.Needs.{needs}
 use Rattle.columns.proofs.build_nested.Statement.{statement}
 use Rattle.columns.proofs.build_nested.Tie as tie
-use Rattle.columns.proofs.build_nested.Reads as reads
-use Rattle.columns.proofs.build_nested.Lts as lts
-use Rattle.builder.proofs.emit.Reads as emit-reads
-use Rattle.builder.proofs.operate.Reads as operate-reads
 
 emit-requires : tie.Need-emit-requires
 emit-requires c κs =

@@ -3,10 +3,6 @@ use Rattle.columns.proofs.BuildLaws.{scanned-at, choice-constant, choic
 use borrow.Author.Needs.{needs}
 use Rattle.columns.proofs.choose.Statement.{statement}
 use Rattle.columns.proofs.choose.Tie as tie
-use Rattle.columns.proofs.choose.Reads as reads
-use Rattle.columns.proofs.choose.Lts as lts
-use Rattle.columns.proofs.first_failing.Reads as first-failing-reads
-use Rattle.columns.proofs.settle.Reads as settle-reads
 
 first-failing-requires : tie.Need-first-failing-requires
 first-failing-requires c κs = search needs

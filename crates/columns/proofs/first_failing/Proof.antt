@@ -6,9 +6,6 @@ use Rattle.table.specs.Table.{rowsOf}
 use Rattle.columns.proofs.BuildLaws.{agrees-inside, failing-turn, failing-stop, failing-end, failing-start}
 use Rattle.columns.proofs.first_failing.Statement.{statement}
 use Rattle.columns.proofs.first_failing.Tie as tie
-use Rattle.columns.proofs.first_failing.Reads as reads
-use Rattle.columns.proofs.first_failing.Lts as lts
-use Rattle.columns.proofs.agrees_at.Reads as agrees-at-reads
 
 abbrev Inv-loop : tie.InvT-loop
 Inv-loop t w total low high start i₀ i = (i ≤ total) × (firstFailing (agrees (rowsOf t) w low high start) (total - i) i ≡ firstFailing (agrees (rowsOf t) w low high start) total 0)

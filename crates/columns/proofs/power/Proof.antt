@@ -4,8 +4,6 @@ use native.Mathlib.Omega.{arith}
 use Rattle.columns.proofs.BuildLaws.{power-turn, power-small}
 use Rattle.columns.proofs.power.Statement.{statement}
 use Rattle.columns.proofs.power.Tie as tie
-use Rattle.columns.proofs.power.Reads as reads
-use Rattle.columns.proofs.power.Lts as lts
 
 abbrev Inv-loop : tie.InvT-loop
 Inv-loop k s₀ i₀ s i = (i ≤ k) × (s ≡ 2 ^ i)

@@ -2,9 +2,6 @@ use borrow.Author.Tests.{lt-ltb, le-ltb}
 use borrow.Author.Needs.{needs}
 use Rattle.columns.proofs.settle.Statement.{statement}
 use Rattle.columns.proofs.settle.Tie as tie
-use Rattle.columns.proofs.settle.Reads as reads
-use Rattle.columns.proofs.settle.Lts as lts
-use Rattle.columns.proofs.first_failing.Reads as first-failing-reads
 
 first-failing-requires : tie.Need-first-failing-requires
 first-failing-requires c κs = search needs

@@ -11,8 +11,6 @@ use Rattle.columns.specs.Joining.{varies}
 use Rattle.table.specs.Table.{rowsOf}
 use Rattle.columns.proofs.varying.Statement.{statement}
 use Rattle.columns.proofs.varying.Tie as tie
-use Rattle.columns.proofs.varying.Reads as reads
-use Rattle.columns.proofs.varying.Lts as lts
 
 abbrev Inv-loop : tie.InvT-loop
 Inv-loop t w low d₀ i₀ d i = (i ≤ 256) × (length d ≡ 256) × ((k : ℕ) → k < i → getD d k false ≡ varies (rowsOf t) w low k)

@@ -9,9 +9,6 @@ use Rattle.gather.proofs.LoopLaws.{collect-operator, collect-old, colle
 use borrow.Author.Needs.{needs}
 use Rattle.gather.proofs.add_groups.Statement.{statement}
 use Rattle.gather.proofs.add_groups.Tie as tie
-use Rattle.gather.proofs.add_groups.Reads as reads
-use Rattle.gather.proofs.add_groups.Lts as lts
-use Rattle.gather.proofs.is_in.Reads as is-in-reads
 
 abbrev Inv-loop : tie.InvT-loop
 Inv-loop list found₀ count₀ i₀ found count i = (i ≤ length list) × (count ≤ 8) × (length found ≡ 8) × (collect (take count found) (leavesIn (drop i list)) ≡ collect (take count₀ found₀) (leavesIn list))

@@ -7,9 +7,6 @@ use Rattle.gather.specs.Answer.{badMark}
 use Rattle.gather.proofs.LoopLaws.{bad-stop, bad-on, bad-none}
 use Rattle.gather.proofs.bad_marks.Statement.{statement}
 use Rattle.gather.proofs.bad_marks.Tie as tie
-use Rattle.gather.proofs.bad_marks.Reads as reads
-use Rattle.gather.proofs.bad_marks.Lts as lts
-use Rattle.gather.proofs.is_in.Reads as is-in-reads
 
 abbrev Inv-loop : tie.InvT-loop
 Inv-loop groups marks i₀ i = (i ≤ length marks) × (badMark groups marks ≡ badMark groups (drop i marks))

@@ -7,10 +7,6 @@ use Rattle.gather.proofs.WholeLaws.{not-constant, not-columns}
 use borrow.Author.Needs.{needs}
 use Rattle.gather.proofs.build.Statement.{statement}
 use Rattle.gather.proofs.build.Tie as tie
-use Rattle.gather.proofs.build.Reads as reads
-use Rattle.gather.proofs.build.Lts as lts
-use Rattle.columns.proofs.build_columns.Reads as build-columns-reads
-use Rattle.columns.proofs.build_constant.Reads as build-constant-reads
 
 enum-told : tie.Need-enum-told
 enum-told c = search needs

@@ -7,11 +7,6 @@ use Rattle.gather.proofs.LoopLaws.{fault-short, fault-none, fault-many,
 use borrow.Author.Needs.{needs}
 use Rattle.gather.proofs.fault_of.Statement.{statement}
 use Rattle.gather.proofs.fault_of.Tie as tie
-use Rattle.gather.proofs.fault_of.Reads as reads
-use Rattle.gather.proofs.fault_of.Lts as lts
-use Rattle.gather.proofs.add_groups.Reads as add-groups-reads
-use Rattle.gather.proofs.bad_marks.Reads as bad-marks-reads
-use Rattle.tree.proofs.is_tree.Reads as is-tree-reads
 
 returns : tie.Need-returns
 returns c = fault-short _ _ _ (c .if1 .taken)

@@ -2,10 +2,6 @@ use mathlib.Core.Path.{refl, sym, _∙_}
 use borrow.Author.Needs.{needs}
 use Rattle.gather.proofs.gather.Statement.{statement}
 use Rattle.gather.proofs.gather.Tie as tie
-use Rattle.gather.proofs.gather.Reads as reads
-use Rattle.gather.proofs.gather.Lts as lts
-use Rattle.gather.proofs.fault_of.Reads as fault-of-reads
-use Rattle.gather.proofs.gather_tree.Reads as gather-tree-reads
 
 fault-of-requires : tie.Need-fault-of-requires
 fault-of-requires c κs = search needs

@@ -7,12 +7,6 @@ use Rattle.gather.proofs.WholeLaws.{marks-length, rest-all, total-most,
 use borrow.Author.Needs.{needs}
 use Rattle.gather.proofs.gather_ordered.Statement.{statement}
 use Rattle.gather.proofs.gather_ordered.Tie as tie
-use Rattle.gather.proofs.gather_ordered.Reads as reads
-use Rattle.gather.proofs.gather_ordered.Lts as lts
-use Rattle.gather.proofs.build.Reads as build-reads
-use Rattle.columns.proofs.choose.Reads as choose-reads
-use Rattle.columns.proofs.power.Reads as power-reads
-use Rattle.table.proofs.table.Reads as table-reads
 
 table-requires : tie.Need-table-requires
 table-requires c κs = search needs

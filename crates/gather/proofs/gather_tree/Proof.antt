@@ -7,11 +7,6 @@ use Rattle.gather.proofs.WholeLaws.{faultless, faultless-list, the-same
 use borrow.Author.Needs.{needs}
 use Rattle.gather.proofs.gather_tree.Statement.{statement}
 use Rattle.gather.proofs.gather_tree.Tie as tie
-use Rattle.gather.proofs.gather_tree.Reads as reads
-use Rattle.gather.proofs.gather_tree.Lts as lts
-use Rattle.gather.proofs.holding.Reads as holding-reads
-use Rattle.gather.proofs.rearrange.Reads as rearrange-reads
-use Rattle.tree.proofs.copy.Reads as copy-reads
 
 holding-requires : tie.Need-holding-requires
 holding-requires c κs =

@@ -10,10 +10,6 @@ use Rattle.table.proofs.EntryLaws.{turn-group, turn-operator, turn-two, turn-en
 use borrow.Author.Needs.{needs}
 use Rattle.gather.proofs.holding.Statement.{statement}
 use Rattle.gather.proofs.holding.Tie as tie
-use Rattle.gather.proofs.holding.Reads as reads
-use Rattle.gather.proofs.holding.Lts as lts
-use Rattle.gather.proofs.leaf_status.Reads as leaf-status-reads
-use Rattle.gather.proofs.merge.Reads as merge-reads
 
 abbrev Inv-loop : tie.InvT-loop
 Inv-loop list marks stack₀ top₀ i₀ stack top i = (i ≤ length list) × (top ≤ i) × (length stack ≡ 8191) × ((t : Tree) → list ≡ postfix t → Passing (leafStatus (isIn marks)) nodeStatus Free t i stack top)

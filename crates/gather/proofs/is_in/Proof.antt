@@ -6,8 +6,6 @@ use Rattle.tree.specs.Tree.{isIn}
 use Rattle.gather.proofs.LoopLaws.{in-here, in-on, in-none}
 use Rattle.gather.proofs.is_in.Statement.{statement}
 use Rattle.gather.proofs.is_in.Tie as tie
-use Rattle.gather.proofs.is_in.Reads as reads
-use Rattle.gather.proofs.is_in.Lts as lts
 
 abbrev Inv-loop : tie.InvT-loop
 Inv-loop list x i₀ i = (i ≤ length list) × (isIn list x ≡ isIn (drop i list) x)

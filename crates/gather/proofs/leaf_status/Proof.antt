@@ -1,9 +1,6 @@
 use borrow.Author.Needs.{needs}
 use Rattle.gather.proofs.leaf_status.Statement.{statement}
 use Rattle.gather.proofs.leaf_status.Tie as tie
-use Rattle.gather.proofs.leaf_status.Reads as reads
-use Rattle.gather.proofs.leaf_status.Lts as lts
-use Rattle.gather.proofs.is_in.Reads as is-in-reads
 
 is-in-requires : tie.Need-is-in-requires
 is-in-requires c κs = search needs

@@ -1,8 +1,6 @@
 use borrow.Author.Needs.{needs}
 use Rattle.gather.proofs.merge.Statement.{statement}
 use Rattle.gather.proofs.merge.Tie as tie
-use Rattle.gather.proofs.merge.Reads as reads
-use Rattle.gather.proofs.merge.Lts as lts
 
 enum-told : tie.Need-enum-told
 enum-told c = search needs

@@ -6,10 +6,6 @@ use Rattle.gather.proofs.WholeLaws.{faultless, faultless-list, the-same
 use borrow.Author.Needs.{needs}
 use Rattle.gather.proofs.rearrange.Statement.{statement}
 use Rattle.gather.proofs.rearrange.Tie as tie
-use Rattle.gather.proofs.rearrange.Reads as reads
-use Rattle.gather.proofs.rearrange.Lts as lts
-use Rattle.gather.proofs.add_groups.Reads as add-groups-reads
-use Rattle.gather.proofs.gather_ordered.Reads as gather-ordered-reads
 
 add-groups-requires : tie.Need-add-groups-requires
 add-groups-requires c κs = search needs

@@ -1,19 +1,11 @@
-use mathlib.Core.Path.{_≡_, sym, _∙_}
-use Prim.Native.Nat.{ℕ, _+_, _*_, _≤_}
+use mathlib.Core.Path.{sym}
 use native.Mathlib.Omega.{arith}
-use lib.ListN.{length, take, replicate}
 use lib.Seq.{length-take-le}
-use Rattle.sheet.specs.Reading.{State}
 use Rattle.key.proofs.EncodingLaws.{zeros-length}
-use Rattle.key.proofs.AnswerLaws.{IsRead, is-read, read-copied, read-marks, read-answered, read-most}
+use Rattle.key.proofs.AnswerLaws.{is-read, read-copied, read-marks, read-answered, read-most}
 use borrow.Author.Needs.{needs}
 use Rattle.key.proofs.answer_sheet.Statement.{statement}
 use Rattle.key.proofs.answer_sheet.Tie as tie
-use Rattle.key.proofs.answer_sheet.Reads as reads
-use Rattle.key.proofs.answer_sheet.Lts as lts
-use Rattle.key.proofs.finish.Reads as finish-reads
-use Rattle.key.proofs.lift_all.Reads as lift-all-reads
-use Rattle.tree.proofs.copy.Reads as copy-reads
 
 array-share-prefix-entries : tie.Need-array-share-prefix-entries
 array-share-prefix-entries c =

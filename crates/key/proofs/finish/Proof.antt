@@ -1,16 +1,7 @@
-use mathlib.Core.List.{List, []}
-use mathlib.Core.Path.{_≡_, refl}
-use Prim.Native.Nat.{ℕ}
-use lib.ListN.{length}
-use native.Mathlib.Omega.{arith}
 use Rattle.key.proofs.FinishLaws.{finished-plain, empty-list}
 use borrow.Author.Needs.{needs}
 use Rattle.key.proofs.finish.Statement.{statement}
 use Rattle.key.proofs.finish.Tie as tie
-use Rattle.key.proofs.finish.Reads as reads
-use Rattle.key.proofs.finish.Lts as lts
-use Rattle.key.proofs.put_held.Reads as put-held-reads
-use Rattle.key.proofs.put_tree_code.Reads as put-tree-code-reads
 
 put-tree-code-requires : tie.Need-put-tree-code-requires
 put-tree-code-requires c κs = search needs

@@ -1,16 +1,9 @@
-use mathlib.Core.Path.{_≡_, sym, _∙_}
-use Prim.Native.Nat.{ℕ, _+_, _≤_}
 use native.Mathlib.Omega.{arith}
 use Rattle.key.proofs.PrintingLaws.{no-most}
 use Rattle.key.proofs.AnswerLaws.{keys-short, accepted-read, keys-refused, keys-answered}
 use borrow.Author.Needs.{needs}
 use Rattle.key.proofs.key.Statement.{statement}
 use Rattle.key.proofs.key.Tie as tie
-use Rattle.key.proofs.key.Reads as reads
-use Rattle.key.proofs.key.Lts as lts
-use Rattle.key.proofs.answer_sheet.Reads as answer-sheet-reads
-use Rattle.sheet.proofs.read.Reads as read-reads
-use Rattle.text.proofs.put_line.Reads as put-line-reads
 
 returns : tie.Need-returns
 returns c =

@@ -1,22 +1,17 @@
 use Rattle.sheet.specs.declared.LineAt.{LineAt}
 use Rattle.key.proofs.LiftOneLaws.{front-size}
-use mathlib.Core.Path.{_≡_, refl, sym, ap, _∙_}
+use mathlib.Core.Path.{_≡_, refl, ap, _∙_}
 use mathlib.Core.List.{List}
-use Prim.Native.Nat.{ℕ, _+_, _-_, _*_, _≤_}
+use Prim.Native.Nat.{_-_, _≤_}
 use native.Mathlib.Omega.{arith}
 use borrow.Author.Needs.{needs}
 use lib.ListN.{length, take}
 use Rattle.tree.specs.Tree.{Tree, mostNodes}
 use Rattle.sheet.specs.Reading.{LiftLine}
-use Rattle.key.specs.Inner.{IsList, Asked, LiftedAll}
+use Rattle.key.specs.Inner.{IsList, Asked}
 use Rattle.key.proofs.LiftAllLaws.{Reached, reached-start, reached-turn, reached-next, reached-end}
 use Rattle.key.proofs.lift_all.Statement.{statement}
 use Rattle.key.proofs.lift_all.Tie as tie
-use Rattle.key.proofs.lift_all.Reads as reads
-use Rattle.key.proofs.lift_all.Lts as lts
-use Rattle.key.proofs.lift_numbers.Reads as lift-numbers-reads
-use Rattle.key.proofs.lift_one.Reads as lift-one-reads
-use Rattle.sheet.proofs.line_at.Reads as line-at-reads
 
 abbrev Inv-loop : tie.InvT-loop
 Inv-loop sheet start count tree₀ nodes out₀ at₀ entries₀ next₀ i₀ tree out at entries next i =

@@ -1,12 +1,7 @@
 use Rattle.key.proofs.LiftAllLaws.{not-two}
-use Prim.Native.Nat.{ℕ}
-use mathlib.Core.Path.{_≡_, sym, _∙_}
-use native.Mathlib.Omega.{arith}
 use borrow.Author.Needs.{needs}
 use Rattle.key.proofs.lift_numbers.Statement.{statement}
 use Rattle.key.proofs.lift_numbers.Tie as tie
-use Rattle.key.proofs.lift_numbers.Reads as reads
-use Rattle.key.proofs.lift_numbers.Lts as lts
 
 enum-known-line : tie.Need-enum-known-line
 enum-known-line c = search needs

@@ -1,20 +1,12 @@
-use mathlib.Core.Path.{_≡_, sym, _∙_}
-use Prim.Native.Nat.{ℕ, _≤_}
+use mathlib.Core.Path.{sym}
 use native.Mathlib.Omega.{arith}
-use lib.ListN.{length, take, replicate}
+use lib.ListN.{take, replicate}
 use lib.Seq.{length-take-le}
-use Rattle.tree.specs.Tree.{Tree}
-use Rattle.key.specs.Inner.{IsList}
 use Rattle.key.proofs.EncodingLaws.{zeros-length}
-use Rattle.key.proofs.LiftOneLaws.{DoneLift, done-lift, refused-lift, lifted-one-done, lifted-one-refused}
+use Rattle.key.proofs.LiftOneLaws.{done-lift, refused-lift, lifted-one-done, lifted-one-refused}
 use borrow.Author.Needs.{needs}
 use Rattle.key.proofs.lift_one.Statement.{statement}
 use Rattle.key.proofs.lift_one.Tie as tie
-use Rattle.key.proofs.lift_one.Reads as reads
-use Rattle.key.proofs.lift_one.Lts as lts
-use Rattle.lift.proofs.lift.Reads as lift-reads
-use Rattle.text.proofs.put_line.Reads as put-line-reads
-use Rattle.tree.proofs.copy.Reads as copy-reads
 
 slice-reshare-prefix-lift : tie.Need-slice-reshare-prefix-lift
 slice-reshare-prefix-lift c = search needs

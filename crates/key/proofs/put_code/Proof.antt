@@ -1,13 +1,10 @@
-use Prim.Native.Nat.{_-_, _≤_, _<_}
+use Prim.Native.Nat.{_-_, _≤_}
 use native.Mathlib.Omega.{arith}
 use borrow.Author.Needs.{needs}
 use lib.ListN.{length, drop, length-drop}
 use Rattle.key.proofs.PrintingLaws.{WroteUpTo, up-to-start, up-to-next, up-to-end, codeText, code-text-next, code-room, code-text-end}
 use Rattle.key.proofs.put_code.Statement.{statement}
 use Rattle.key.proofs.put_code.Tie as tie
-use Rattle.key.proofs.put_code.Reads as reads
-use Rattle.key.proofs.put_code.Lts as lts
-use Rattle.key.proofs.put_instruction.Reads as put-instruction-reads
 
 abbrev Inv-loop : tie.InvT-loop
 Inv-loop code out₀ at i₀ next₀ out i next = (i ≤ length code) × WroteUpTo (codeText code) (codeText (drop i code)) out₀ at out next

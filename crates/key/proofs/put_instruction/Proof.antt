@@ -4,9 +4,6 @@ use Rattle.key.proofs.PrintingLaws.{load-text, add-text, cut-text}
 use borrow.Author.Needs.{needs}
 use Rattle.key.proofs.put_instruction.Statement.{statement}
 use Rattle.key.proofs.put_instruction.Tie as tie
-use Rattle.key.proofs.put_instruction.Reads as reads
-use Rattle.key.proofs.put_instruction.Lts as lts
-use Rattle.text.proofs.put_line.Reads as put-line-reads
 
 slice-aggregate-put-line : tie.Need-slice-aggregate-put-line
 slice-aggregate-put-line c = search needs

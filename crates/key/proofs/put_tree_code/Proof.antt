@@ -1,18 +1,14 @@
 -- `key::put_tree_code` meets its contract: `encode` has room and its list is a tree's, so it answers done with that tree's code.
-use mathlib.Core.Path.{_≡_, sym, _∙_}
-use Prim.Native.Nat.{_*_, _≤_}
+use mathlib.Core.Path.{sym}
+use Prim.Native.Nat.{_*_}
 use native.Mathlib.Omega.{arith}
 use borrow.Author.Needs.{needs}
-use lib.ListN.{length, take, replicate}
+use lib.ListN.{replicate}
 use lib.Seq.{length-take-le}
 use Rattle.tree.proofs.WritingLaws.{wrote-as}
-use Rattle.key.proofs.EncodingLaws.{Encoded, zeros-length, encoded, encoded-not}
+use Rattle.key.proofs.EncodingLaws.{zeros-length, encoded, encoded-not}
 use Rattle.key.proofs.put_tree_code.Statement.{statement}
 use Rattle.key.proofs.put_tree_code.Tie as tie
-use Rattle.key.proofs.put_tree_code.Reads as reads
-use Rattle.key.proofs.put_tree_code.Lts as lts
-use Rattle.coder.proofs.encode.Reads as encode-reads
-use Rattle.key.proofs.put_code.Reads as put-code-reads
 
 slice-aggregate-encode : tie.Need-slice-aggregate-encode
 slice-aggregate-encode c = search needs

@@ -1,8 +1,6 @@
 use borrow.Author.Tests.{eq-eqb, ne-eqb}
 use Rattle.table.proofs.combine.Statement.{statement}
 use Rattle.table.proofs.combine.Tie as tie
-use Rattle.table.proofs.combine.Reads as reads
-use Rattle.table.proofs.combine.Lts as lts
 
 returns : tie.Need-returns
 returns c = rw (eq-eqb _ _ (c .if1 .taken))

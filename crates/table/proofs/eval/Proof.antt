@@ -10,10 +10,6 @@ use Rattle.table.proofs.EntryLaws.{leafValue, nodeValue, fold-selects, 
 use borrow.Author.Needs.{needs}
 use Rattle.table.proofs.eval.Statement.{statement}
 use Rattle.table.proofs.eval.Tie as tie
-use Rattle.table.proofs.eval.Reads as reads
-use Rattle.table.proofs.eval.Lts as lts
-use Rattle.table.proofs.combine.Reads as combine-reads
-use Rattle.table.proofs.in_row.Reads as in-row-reads
 
 abbrev Inv-loop : tie.InvT-loop
 Inv-loop list groups row stack₀ top₀ i₀ stack top i = (i ≤ length list) × (top ≤ i) × (length stack ≡ 8191) × ((t : Tree) → list ≡ postfix t → Passing (leafValue (filling groups row)) nodeValue false t i stack top)

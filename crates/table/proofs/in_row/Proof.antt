@@ -6,8 +6,6 @@ use Rattle.table.specs.Table.{filling}
 use Rattle.table.proofs.TableLaws.{filling-here, filling-on, filling-none}
 use Rattle.table.proofs.in_row.Statement.{statement}
 use Rattle.table.proofs.in_row.Tie as tie
-use Rattle.table.proofs.in_row.Reads as reads
-use Rattle.table.proofs.in_row.Lts as lts
 
 abbrev Inv-loop : tie.InvT-loop
 Inv-loop groups row g bits₀ i₀ bits i = (i ≤ length groups) × (filling groups row g ≡ filling (drop i groups) bits g)

@@ -10,9 +10,6 @@ use Rattle.table.specs.Table.{valueAt, table}
 use Rattle.table.proofs.TableLaws.{length-table, table-at}
 use Rattle.table.proofs.table.Statement.{statement}
 use Rattle.table.proofs.table.Tie as tie
-use Rattle.table.proofs.table.Reads as reads
-use Rattle.table.proofs.table.Lts as lts
-use Rattle.table.proofs.eval.Reads as eval-reads
 
 abbrev Inv-loop : tie.InvT-loop
 Inv-loop list groups rows₀ row₀ rows row = (row ≤ 256) × (length rows ≡ 256) × ((t : Tree) → list ≡ postfix t → (i : ℕ) → i < row → getD rows i false ≡ valueAt groups t i)

@@ -1,7 +1,6 @@
 -- `repeat`: the index stays within the buffer.
 use mathlib.Core.Path.{_≡_}
 use Prim.Native.Nat.{_≤_, _-_}
-use native.Mathlib.Omega.{arith}
 use borrow.Author.Needs.{needs}
 use lib.ListN.{length}
 use Rattle.sheet_test.proofs.cases.repeat.Statement.{statement}

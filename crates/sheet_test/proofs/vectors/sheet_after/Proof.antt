@@ -2,8 +2,6 @@
 use mathlib.Core.Path.{sym}
 use lib.Seq.{length-take-le}
 use Rattle.text.proofs.PartsLaws.{rest-all}
-use native.Mathlib.Omega.{arith}
-use lib.ListN.{length-take}
 use borrow.Author.Needs.{needs}
 use Rattle.sheet_test.proofs.vectors.sheet_after.Statement.{statement}
 use Rattle.sheet_test.proofs.vectors.sheet_after.Tie as tie
