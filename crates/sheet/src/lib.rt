@@ -402,6 +402,7 @@ pub struct Sheet {
     pub lifts: usize,
 }
 
+// The answer for a sheet that is refused.
 fn refusal(number: u8, line: usize) -> Sheet
     ensures { λ r. ⌜ r ≡ answer (refused number line) ⌝ }
 {
@@ -417,16 +418,10 @@ fn refusal(number: u8, line: usize) -> Sheet
     }
 }
 
-// Reads a sheet.
-pub fn read(sheet: &[u8]) -> Sheet
-    ensures { λ r. ⌜ r ≡ answer (reading (now (sheet .entry))) ⌝ }
+// The answer for a sheet that is accepted.
+fn acceptance(p: Progress, tree: [u16; MOST_SHEET_NODES], marks: [u16; MOST_GROUPS]) -> Sheet
+    ensures { λ r. ⌜ r ≡ record { number = 0; line = 0; tree = tree; nodes = p .nodes; marks = marks; marked = p .marked; start = p .start; lifts = p .lifts } ⌝ }
 {
-    let mut tree: [u16; MOST_SHEET_NODES] = [0; MOST_SHEET_NODES];
-    let mut marks: [u16; MOST_GROUPS] = [0; MOST_GROUPS];
-    let p = read_lines(sheet, &mut tree, &mut marks);
-    if p.fault != 0 {
-        return refusal(p.fault, p.line);
-    }
     Sheet {
         number: 0,
         line: 0,
@@ -437,4 +432,17 @@ pub fn read(sheet: &[u8]) -> Sheet
         start: p.start,
         lifts: p.lifts,
     }
+}
+
+// Reads a sheet.
+pub fn read(sheet: &[u8]) -> Sheet
+    ensures { λ r. ⌜ r ≡ answer (reading (now (sheet .entry))) ⌝ }
+{
+    let mut tree: [u16; MOST_SHEET_NODES] = [0; MOST_SHEET_NODES];
+    let mut marks: [u16; MOST_GROUPS] = [0; MOST_GROUPS];
+    let p = read_lines(sheet, &mut tree, &mut marks);
+    if p.fault != 0 {
+        return refusal(p.fault, p.line);
+    }
+    acceptance(p, tree, marks)
 }

@@ -21,8 +21,11 @@ refusal-requires c κs = search needs
 returns : tie.Need-returns
 returns c = c .refusal .ensures ∙ gives-refused mostSheetNodes (reading (c .before .before .before .before .before .before .before .before .before .args .sheet .now)) (c .before .before .before .before .before .read-lines .result) _ _ (c .before .before .before .before .before .read-lines .ensures) (c .before .if1 .taken)
 
+acceptance-requires : tie.Need-acceptance-requires
+acceptance-requires c κs = search needs
+
 returns-2 : tie.Need-returns-2
-returns-2 c = gives-accepted (reading (c .before .before .before .before .before .before .before .before .args .sheet .now)) (c .before .before .before .before .read-lines .result) _ _ (c .before .before .before .before .read-lines .ensures) (c .if1 .left)
+returns-2 c = c .acceptance .ensures ∙ gives-accepted (reading (c .before .before .before .before .before .before .before .before .before .args .sheet .now)) (c .before .before .before .before .before .read-lines .result) _ _ (c .before .before .before .before .before .read-lines .ensures) (c .before .if1 .left)
 
 pub read-spec : {M : Type 1} → statement M
 read-spec =
@@ -33,4 +36,5 @@ read-spec =
     read-lines-requires
     refusal-requires
     returns
+    acceptance-requires
     returns-2)
