@@ -3,7 +3,7 @@ use borrow.Author.Needs.{needs}
 use mathlib.Core.Path.{_≡_, sym, subst, _∙_}
 use mathlib.Core.List.{List}
 use native.Mathlib.Omega.{arith}
-use lib.ListN.{length, take}
+use lib.ListN.{length, take, length-take}
 use lib.Seq.{length-take-le}
 use Rattle.tree.specs.Tree.{Tree}
 use Rattle.tree.specs.Context.{Frame}
@@ -59,10 +59,10 @@ run-slice-reshare-prefix-copy : (t : ℕ) → run-lts.Need-slice-reshare-prefix-
 run-slice-reshare-prefix-copy t c = search needs
 
 run-slice-aggregate-copy : (t : ℕ) → run-lts.Need-slice-aggregate-copy (calls t) (run-at t) run.Post
-run-slice-aggregate-copy t c = sym (whole t (c .before .before .before .before .before))
+run-slice-aggregate-copy t c = let g = c .before .before .before .before .before in sym (length-take-le _ _ (omega (arith, g .pre .1 .1)))
 
 run-copy-requires : (t : ℕ) → run-lts.Need-copy-requires (calls t) (run-at t) run.Post
-run-copy-requires t c κs = let g = c .before .before .before .before .before .before in omega (arith, whole t g, g .pre .1 .1)
+run-copy-requires t c κs = let g = c .before .before .before .before .before .before in rw length-take (omega (arith, g .pre .1 .1))
 
 run-sub-t14 : (t : ℕ) → run-lts.Need-sub-t14 (calls t) (run-at t) run.Post
 run-sub-t14 t c = let L = c .before .before .before .before .before .before .before .before .before .before .pre .1 .0 in omega (arith, L .2 .part .ends, size-positive (L .0))
