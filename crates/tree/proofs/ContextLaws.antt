@@ -68,6 +68,22 @@ found-at (node o l r) c p k = go (found-at l (frame left o r ∷ c) p) (found-at
         record { same = F .same; place = F .place ∙ omega (arith, ltb-false p (size l) e, length-append (before c) (postfix l), postfix-length l) }
     go fl fr false false e f = record { same = refl; place = omega (arith, ltb-false p (size l + size r) f) }
 
+-- the node sought stands in the left operand's part, in the right one's, or it is the root
+pub locate-left : (o : Operator) (l r : Tree) (c : List Frame) (p : ℕ) → p < size l → locate (node o l r) c p ≡ locate l (frame left o r ∷ c) p
+unfolding locate
+locate-left o l r c p h = rw (lt-ltb p (size l) h)
+
+pub locate-right : (o : Operator) (l r : Tree) (c : List Frame) (p q : ℕ) → p ≡ size l + q → q < size r → locate (node o l r) c p ≡ locate r (frame right o l ∷ c) q
+unfolding locate
+locate-right o l r c p q e h =
+    let z : p - size l ≡ q = omega arith in
+    rw (le-ltb p (size l) (omega arith), lt-ltb p (size l + size r) (omega arith), z)
+
+pub locate-here : (t : Tree) (c : List Frame) (p : ℕ) → p + 1 ≡ size t → locate t c p ≡ record { part = t; above = c }
+unfolding locate size
+locate-here (leaf g h) c p e = refl
+locate-here (node o l r) c p e = rw (le-ltb p (size l) (omega (arith, size-positive r)), le-ltb p (size l + size r) (omega arith))
+
 -- the position that `locate` was asked for
 pub located-position : (t : Tree) (p : ℕ) → p < size t → position (locate t [] p .part) (locate t [] p .above) ≡ p
 unfolding before
@@ -79,28 +95,20 @@ located-whole t p h = found-at t [] p h .same
 
 -- the node at a part's position is that part, with that context
 locate-within : (h : Tree) (c d : List Frame) (p : ℕ) → p < size h → locate (plug h c) d (length (before c) + p) ≡ locate h (c ++ d) p
-unfolding plug before locate size
+unfolding plug before size
 locate-within h [] d p k = ap (locate h d) (let z : 0 + p ≡ p = omega arith in z)
 locate-within h (frame left o b ∷ c) d p k =
-    locate-within (node o h b) c d p (omega arith) ∙ rw (lt-ltb p (size h) k)
+    locate-within (node o h b) c d p (omega arith) ∙ locate-left o h b (c ++ d) p k
 locate-within h (frame right o b ∷ c) d p k =
     let e : length (before c ++ postfix b) + p ≡ length (before c) + (size b + p) = omega (arith, length-append (before c) (postfix b), postfix-length b) in
-    let f : size b + p - size b ≡ p = omega arith in
     ap (locate (plug (node o b h) c) d) e ∙ locate-within (node o b h) c d (size b + p) (omega arith)
-    ∙ rw (le-ltb (size b + p) (size b) (omega arith), lt-ltb (size b + p) (size b + size h) (omega arith), f)
-
-locate-root : (h : Tree) (c : List Frame) → locate h c (size h - 1) ≡ record { part = h; above = c }
-unfolding locate size
-locate-root (leaf g k) c = refl
-locate-root (node o l r) c =
-    let e : size l + size r + 1 - 1 ≡ size l + size r = omega arith in
-    rw (e, le-ltb (size l + size r) (size l) (omega arith), le-ltb (size l + size r) (size l + size r) (omega arith))
+    ∙ locate-right o b h (c ++ d) (size b + p) p refl k
 
 pub locate-plug : (h : Tree) (c : List Frame) → locate (plug h c) [] (position h c) ≡ record { part = h; above = c }
 locate-plug h c =
     let e : position h c ≡ length (before c) + (size h - 1) = omega (arith, size-positive h) in
     ap (locate (plug h c) []) e ∙ locate-within h c [] (size h - 1) (omega (arith, size-positive h))
-    ∙ ap (λ (d : List Frame). locate h d (size h - 1)) (append-nil c) ∙ locate-root h c
+    ∙ ap (λ (d : List Frame). locate h d (size h - 1)) (append-nil c) ∙ locate-here h c (size h - 1) (omega (arith, size-positive h))
 
 pub position-most : (h : Tree) (c : List Frame) → position h c < size (plug h c)
 position-most h c = omega (arith, size-plug h c, size-positive h)

@@ -24,7 +24,20 @@ pub is-in-here : (x : ℕ) (xs : List ℕ) → isIn (x ∷ xs) x ≡ true
 unfolding isIn
 is-in-here x xs = rw (eq-eqb x x refl)
 
-is-in-new : (xs : List ℕ) (y x : ℕ) → isIn (withNew xs y) x ≡ (isIn xs x || eqb x y)
+-- in a list with one number more at its end
+is-in-end : (xs : List ℕ) (y x : ℕ) → isIn (xs ++ (y ∷ [])) x ≡ (isIn xs x || eqb x y)
+is-in-end xs y x = is-in-append xs (y ∷ []) x ∙ ap (λ (b : Bool). isIn xs x || b) (is-in-one y x)
+
+-- what is in such a list stood there before or is the number added
+pub end-cases : (P : Type 0) (xs : List ℕ) (y x : ℕ) → isIn (xs ++ (y ∷ [])) x ≡ true → (isIn xs x ≡ true → P) → (x ≡ y → P) → P
+end-cases P xs y x e p q = go (isIn xs x) refl (eqb x y) refl (sym (is-in-end xs y x) ∙ e)
+  where
+    go : (a : Bool) → isIn xs x ≡ a → (b : Bool) → eqb x y ≡ b → (a || b) ≡ true → P
+    go true r b s e = p r
+    go false r true s e = q (eqb-true x y s)
+    go false r false s e = absurd (false≢true e)
+
+pub is-in-new : (xs : List ℕ) (y x : ℕ) → isIn (withNew xs y) x ≡ (isIn xs x || eqb x y)
 is-in-new xs y x = go (isIn xs y) refl
   where
     absorb : (b : Bool) → eqb x y ≡ b → isIn xs y ≡ true → isIn xs x ≡ (isIn xs x || b)
@@ -33,7 +46,7 @@ is-in-new xs y x = go (isIn xs y) refl
 
     go : (b : Bool) → isIn xs y ≡ b → isIn (cond b xs (xs ++ (y ∷ []))) x ≡ (isIn xs x || eqb x y)
     go true e = absorb (eqb x y) refl e
-    go false e = is-in-append xs (y ∷ []) x ∙ ap (λ (b : Bool). isIn xs x || b) (is-in-one y x)
+    go false e = is-in-end xs y x
 
 pub in-collect : (xs ys : List ℕ) (x : ℕ) → isIn (collect xs ys) x ≡ (isIn xs x || isIn ys x)
 unfolding collect isIn
@@ -44,12 +57,17 @@ in-collect xs (y ∷ ys) x = in-collect (withNew xs y) ys x ∙ ap (λ (b : Bool
     or-assoc true b c = refl
     or-assoc false b c = refl
 
+pub collect-append : (xs ys zs : List ℕ) → collect xs (ys ++ zs) ≡ collect (collect xs ys) zs
+unfolding collect
+collect-append xs [] zs = refl
+collect-append xs (y ∷ ys) zs = collect-append (withNew xs y) ys zs
+
 -- the groups of a tree are those of its leaves
 pub groups-leaves : (t : Tree) (g : ℕ) → isIn (groups t) g ≡ isIn (leaves t) g
 groups-leaves t g = in-collect [] (leaves t) g ∙ (unfold isIn in refl)
 
 -- ---- lists of different numbers
-distinct-end : (xs : List ℕ) (y : ℕ) → Distinct xs → isIn xs y ≡ false → Distinct (xs ++ (y ∷ []))
+pub distinct-end : (xs : List ℕ) (y : ℕ) → Distinct xs → isIn xs y ≡ false → Distinct (xs ++ (y ∷ []))
 unfolding Distinct isIn
 distinct-end [] y d e = (refl, tt)
 distinct-end (x ∷ xs) y d e = go (eqb y x) refl e (distinct-end xs y (d .1))

@@ -7,14 +7,14 @@ use Prim.Native.Nat.{ℕ, zero, suc, _+_, _-_, _≤_, _<_}
 use native.Mathlib.Omega.{arith}
 use native.Mathlib.Numerals.{add-one}
 use borrow.Author.Tests.{le-ltb, lt-ltb, le-leb, lt-leb, leb-true, ne-eqb}
-use lib.Dec.{eqb, leb, ltb}
+use lib.Dec.{T, eqb, leb, ltb}
 use lib.ListN.{length, getD, drop, drop-of-length-le}
-use Rattle.tree.specs.Tree.{Operator, Tree, leaf, node, postfix, size, sign, mostNodes}
+use Rattle.tree.specs.Tree.{Operator, Tree, leaf, node, isGroup, postfix, size, sign, mostNodes}
 use Rattle.tree.specs.Pass.{Entry, group, operator, neither, entryOf, fold, pushed, andThen, pass}
 use Rattle.tree.specs.Parse.{alone, waiting, parse, treeOf, isSome}
 use Rattle.tree.specs.Scan.{entryKind}
-use Rattle.tree.proofs.TreeLaws.{postfix-length}
-use Rattle.tree.proofs.PassLaws.{Writes, entry-writes, here, pass-whole}
+use Rattle.tree.proofs.TreeLaws.{postfix-length, size-positive}
+use Rattle.tree.proofs.PassLaws.{Writes, entry-sign, entry-leaf, entry-writes, here, pass-whole}
 
 -- ---- a tree's list gives it back
 fold-tree : (i : ℕ) (t : Tree) → fold (λ i g h. leaf g h) (λ i o l r. node o l r) i t ≡ t
@@ -26,7 +26,7 @@ pub parse-postfix : (t : Tree) → parse (postfix t) ≡ some t
 unfolding parse
 parse-postfix t = ap alone (pass-whole (λ i g h. leaf g h) (λ i o l r. node o l r) t) ∙ ap some (fold-tree 0 t)
 
--- ---- a list has at most one tree, and it is that tree's list
+-- ---- the trees that wait
 no-tree : {t : Tree} {X : Type 0} → none ≡ some t → X
 no-tree e = absurd (let z : _≡_ {A = ℕ} 0 1 = cc in omega arith)
 
@@ -54,6 +54,42 @@ waiting-one i x xs s = go (pushedTree i (entryOf x) s)
     go none = refl
     go (some s) = refl
 
+-- ---- one entry more at a list's end
+abbrev pushedOn : Entry → Option (List Tree) → Option (List Tree)
+pushedOn e none = none
+pushedOn e (some s) = pushedTree 0 e s
+
+-- no tree turns on its position
+pushed-any : (i : ℕ) (e : Entry) (s : List Tree) → pushedTree i e s ≡ pushedTree 0 e s
+pushed-any i (group g h) s = refl
+pushed-any i (operator o) [] = refl
+pushed-any i (operator o) (r ∷ []) = refl
+pushed-any i (operator o) (r ∷ (l ∷ s)) = refl
+pushed-any i neither s = refl
+
+waiting-more : (i : ℕ) (xs : List ℕ) (x : ℕ) (s : List Tree) → waiting i (xs ++ (x ∷ [])) s ≡ pushedOn (entryOf x) (waiting i xs s)
+waiting-more i [] x s = waiting-one i x [] s ∙ go (pushedTree i (entryOf x) s) ∙ pushed-any i (entryOf x) s ∙ ap (pushedOn (entryOf x)) (sym (waiting-end i s))
+  where
+    go : (o : Option (List Tree)) → wait (i + 1) [] o ≡ o
+    go none = refl
+    go (some s) = waiting-end (i + 1) s
+waiting-more i (y ∷ xs) x s =
+    waiting-one i y (xs ++ (x ∷ [])) s ∙ go (pushedTree i (entryOf y) s) (waiting-more (i + 1) xs x) ∙ ap (pushedOn (entryOf x)) (sym (waiting-one i y xs s))
+  where
+    go : (o : Option (List Tree)) → ((s : List Tree) → waiting (i + 1) (xs ++ (x ∷ [])) s ≡ pushedOn (entryOf x) (waiting (i + 1) xs s))
+        → wait (i + 1) (xs ++ (x ∷ [])) o ≡ pushedOn (entryOf x) (wait (i + 1) xs o)
+    go none ih = refl
+    go (some s) ih = ih s
+
+-- a group adds a tree to those that wait, an operator makes the latest two one
+pub waiting-group : (xs : List ℕ) (g : ℕ) (h : T (isGroup g)) (s : List Tree) → waiting 0 xs [] ≡ some s → waiting 0 (xs ++ (g ∷ [])) [] ≡ some (leaf g h ∷ s)
+waiting-group xs g h s e = waiting-more 0 xs g [] ∙ rw (e, entry-leaf g h)
+
+pub waiting-operator : (xs : List ℕ) (o : Operator) (l r : Tree) (s : List Tree) → waiting 0 xs [] ≡ some (r ∷ (l ∷ s))
+    → waiting 0 (xs ++ (sign o ∷ [])) [] ≡ some (node o l r ∷ s)
+waiting-operator xs o l r s e = waiting-more 0 xs (sign o) [] ∙ rw (e, entry-sign o)
+
+-- ---- a list has at most one tree, and it is that tree's list
 regroup : (s x y : List ℕ) (o : Operator) (z : List ℕ) → s ++ x ++ y ++ sign o ∷ z ≡ (s ++ (x ++ (y ++ (sign o ∷ [])))) ++ z
 regroup s x y o z = simp append-assoc
 
@@ -89,6 +125,9 @@ pub record IsTree (l : List ℕ) : Type 0 where
   pub list : l ≡ postfix tree
   pub most : size tree ≤ mostNodes
 
+pub tree-length : {l : List ℕ} (I : IsTree l) → length l ≡ size (I .tree)
+tree-length I = ap length (I .list) ∙ postfix-length (I .tree)
+
 pub tree-of-postfix : (t : Tree) → size t ≤ mostNodes → treeOf (postfix t) ≡ some t
 unfolding treeOf
 tree-of-postfix t h = rw (postfix-length t, le-leb (size t) mostNodes h, parse-postfix t)
@@ -110,6 +149,13 @@ the-tree l h = go (treeOf l) refl h
     go : (o : Option Tree) → treeOf l ≡ o → isSome o ≡ true → IsTree l
     go none e h = absurd (false≢true h)
     go (some t) e h = tree-of-sound l t e
+
+-- such a list has 1 to 8,191 entries
+pub tree-some : (l : List ℕ) → isSome (treeOf l) ≡ true → 1 ≤ length l
+tree-some l h = let I = the-tree l h in omega (arith, tree-length I, size-positive (I .tree))
+
+pub tree-few : (l : List ℕ) → isSome (treeOf l) ≡ true → length l ≤ mostNodes
+tree-few l h = let I = the-tree l h in omega (arith, tree-length I, I .most)
 
 pub no-tree-of : (l : List ℕ) → isSome (treeOf l) ≡ false → treeOf l ≡ none
 no-tree-of l h = go (treeOf l) refl h

@@ -3,9 +3,10 @@ use mathlib.Core.Path.{_≡_, refl, sym, ap, _∙_}
 use mathlib.Core.List.{List, [], _∷_, _++_, append-assoc, reverse, reverse-append}
 use Prim.Native.Nat.{ℕ, zero, suc, _+_, _-_, _≤_, _<_}
 use native.Mathlib.Omega.{arith}
+use lib.Dec.{T}
 use lib.ListN.{length, getD, take, drop, length-append, length-reverse}
 use lib.Seq.{take-at, drop-at, getD-at, getD-drop}
-use Rattle.tree.specs.Tree.{Operator, union, difference, Tree, sign, postfix, size}
+use Rattle.tree.specs.Tree.{Operator, union, difference, Tree, leaf, node, isGroup, sign, postfix, size}
 use Rattle.tree.specs.Context.{Side, left, right, Frame, frame, plug, before, after, Place}
 use Rattle.tree.specs.Parse.{locate}
 use Rattle.tree.specs.Part.{Part, kindOf, aboveOf}
@@ -14,6 +15,7 @@ use Rattle.tree.specs.declared.Above.{Above}
 use Rattle.tree.specs.declared.Above.the-variants.{Root, Under}
 use Rattle.tree.proofs.TreeLaws.{postfix-length, size-positive}
 use Rattle.tree.proofs.ContextLaws.{postfix-plug, found-at}
+use Rattle.tree.proofs.ParseLaws.{IsTree, tree-length}
 use Rattle.tree.proofs.ScanLaws.{onward-postfix, onward-sign, backward-postfix}
 
 -- ---- the list around a part
@@ -56,12 +58,52 @@ module _ {l : List ℕ} {f t : ℕ} {a : Tree} {c : List Frame} (P : Part l f t 
       ap (λ (x : List ℕ). backward 1 (reverse x)) part-head ∙ ap (backward 1) (reverse-append (before c) (postfix a))
       ∙ backward-postfix a 1 (reverse (before c)) (omega arith) ∙ length-reverse (before c) ∙ sym (P .begins)
 
+-- ---- a part's own entry, where its last entry is at e
+module _ {l : List ℕ} {f : ℕ} {c : List Frame} (e : ℕ) where
+  pub part-leaf : {g : ℕ} {h : T (isGroup g)} → Part l f (e + 1) (leaf g h) c → getD l e 0 ≡ g
+  unfolding postfix size
+  part-leaf {g} {h} P = ap (λ (x : List ℕ). getD x e 0) (part-list P) ∙ getD-at (before c) g (after c) 0 e (omega (arith, P .begins, P .ends))
+
+  pub part-node : {o : Operator} {x y : Tree} → Part l f (e + 1) (node o x y) c → getD l e 0 ≡ sign o
+  unfolding postfix size
+  part-node {o} {x} {y} P =
+      ap (λ (z : List ℕ). getD z e 0) (part-list P ∙ regroup (before c) (after c))
+      ∙ getD-at (before c ++ (postfix x ++ postfix y)) (sign o) (after c) 0 e
+      (length-append (before c) (postfix x ++ postfix y) ∙ omega (arith, length-append (postfix x) (postfix y), postfix-length x, postfix-length y, P .begins, P .ends))
+    where
+      regroup : (p q : List ℕ) → p ++ ((postfix x ++ (postfix y ++ (sign o ∷ []))) ++ q) ≡ (p ++ (postfix x ++ postfix y)) ++ (sign o ∷ q)
+      regroup p q = simp append-assoc
+
+-- ---- the parts of a node's operands
+module _ {l : List ℕ} {f t : ℕ} {o : Operator} {x y : Tree} {c : List Frame} (P : Part l f t (node o x y) c) where
+  pub part-ends : t ≡ f + size x + size y + 1
+  unfolding size
+  part-ends = omega (arith, P .ends)
+
+  pub part-left : (middle : ℕ) → middle ≡ f + size x → Part l f middle x (frame left o y ∷ c)
+  unfolding plug before
+  part-left middle h = record { whole = P .whole; begins = P .begins; ends = h }
+
+  pub part-right : (middle end : ℕ) → middle ≡ f + size x → end + 1 ≡ t → Part l middle end y (frame right o x ∷ c)
+  unfolding plug before
+  part-right middle end h k = record {
+    whole = P .whole;
+    begins = omega (arith, P .begins, length-append (before c) (postfix x), postfix-length x);
+    ends = omega (arith, part-ends);
+  }
+
 -- the node at a position of a tree's list is a part
 pub part-of-place : (t : Tree) (p from : ℕ) → p < size t → from ≡ length (before (locate t [] p .above)) → Part (postfix t) from (p + 1) (locate t [] p .part) (locate t [] p .above)
 unfolding plug before
 part-of-place t p from h e =
     let F = found-at t [] p h in
     record { whole = ap postfix (sym (F .same)); begins = e; ends = omega (arith, F .place) }
+
+pub part-of-entry : {l : List ℕ} (I : IsTree l) (p : ℕ) → p < length l
+    → Part l (length (before (locate (I .tree) [] p .above))) (p + 1) (locate (I .tree) [] p .part) (locate (I .tree) [] p .above)
+part-of-entry I p h =
+    let P = part-of-place (I .tree) p _ (omega (arith, tree-length I)) refl in
+    record { whole = I .list ∙ P .whole; begins = P .begins; ends = P .ends }
 
 -- the same, by the scan back from the node
 pub part-by-scan : (t : Tree) (p : ℕ) → p < size t → Part (postfix t) (backward 1 (reverse (take (p + 1) (postfix t)))) (p + 1) (locate t [] p .part) (locate t [] p .above)

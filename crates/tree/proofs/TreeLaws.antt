@@ -9,7 +9,7 @@ use lib.Dec.{T, eqb, leb, leb→le}
 use lib.ListN.{length, length-append}
 use Rattle.tree.specs.Tree.{Operator, union, difference, sign, Tree, leaf, node, isGroup, mostGroup, postfix, size, apply, selects, Rig, Equivalent, Over, leaves, isIn, withNew, collect}
 
--- ---- both halves of a conjunction
+-- ---- both halves of a conjunction, and a test that holds
 pub and-left : (x y : Bool) → T (x && y) → T x
 and-left true y t = tt
 and-left false y t = t
@@ -18,12 +18,20 @@ pub and-right : (x y : Bool) → T (x && y) → T y
 and-right true y t = t
 and-right false y t = absurd t
 
+pub is-true : (b : Bool) → T b → b ≡ true
+is-true true t = refl
+is-true false t = absurd t
+
 -- a group is below the operators
 pub group-least : (g : ℕ) → T (isGroup g) → 1 ≤ g
 group-least g h = leb→le 1 g (and-left (leb 1 g) (leb g mostGroup) h)
 
 pub group-most : (g : ℕ) → T (isGroup g) → g ≤ mostGroup
 group-most g h = leb→le g mostGroup (and-right (leb 1 g) (leb g mostGroup) h)
+
+pub sign-least : (o : Operator) → sign union ≤ sign o
+sign-least union = omega arith
+sign-least difference = omega arith
 
 -- ---- size and length
 pub size-positive : (t : Tree) → 0 < size t
