@@ -14,7 +14,8 @@ use Rattle.tree.specs.Context.{left, right, Frame, frame, plug, before}
 use Rattle.tree.specs.Parse.{treeOf, isSome, locate}
 use Rattle.tree.specs.Writing.{over}
 use Rattle.tree.proofs.TreeLaws.{size-positive, postfix-length}
-use Rattle.tree.proofs.ParseLaws.{IsTree, the-tree, no-tree-of}
+use Rattle.tree.proofs.ContextLaws.{locate-left, locate-right, locate-here}
+use Rattle.tree.proofs.ParseLaws.{IsTree, tree-length, the-tree, no-tree-of}
 use Rattle.tree.proofs.WritingLaws.{wrote-over}
 use Rattle.coder.specs.Need.{leftFirst}
 use Rattle.coder.specs.Code.{code, codeNumbers, codePlace, runFirst}
@@ -29,17 +30,11 @@ use Rattle.coder.proofs.NoteLaws.{Split, split, left-node, right-node, 
 use Rattle.coder.proofs.WriterLaws.{Writes}
 
 -- ---- the root
-tree-length : {l : List ℕ} (I : IsTree l) → length l ≡ size (I .tree)
-tree-length I = ap length (I .list) ∙ postfix-length (I .tree)
-
 root-node : {l : List ℕ} (I : IsTree l) → NodeAt l (length l - 1) (I .tree)
 unfolding plug before
 root-node I =
     let e = tree-length I in
     record { from = 0; above = []; is = record { whole = I .list; begins = refl; ends = omega (arith, size-positive (I .tree)) } }
-
-pub some-node : (l : List ℕ) → isSome (treeOf l) ≡ true → 1 ≤ length l
-some-node l h = let I = the-tree l h in omega (arith, tree-length I, size-positive (I .tree))
 
 pub root-writable : (l s n out : List ℕ) → isSome (treeOf l) ≡ true → Noted l s n → leastBuffer ≤ length out → Writable l s n (length l - 1) 0 out 0
 root-writable l s n out h N q =
@@ -101,21 +96,6 @@ descent-few {l} {p} {e} {b} D =
     let u : length l ≡ size (plug (D .part) c) = ap length (D .root .is .whole) ∙ postfix-length (plug (D .part) c) in
     let w : length (code (plug (D .part) c) 0) ≡ length (P .before ++ (code (D .part) (P .target) ++ P .behind)) = ap length (code-stands (D .part) c 0) in
     omega (arith, D .begins, length-code (plug (D .part) c) 0, length-append (P .before) (code (D .part) (P .target) ++ P .behind))
-
-locate-left : (o : Operator) (x y : Tree) (c : List Frame) (p : ℕ) → p < size x → locate (node o x y) c p ≡ locate x (frame left o y ∷ c) p
-unfolding locate
-locate-left o x y c p h = rw (lt-ltb p (size x) h)
-
-locate-right : (o : Operator) (x y : Tree) (c : List Frame) (p q : ℕ) → p ≡ size x + q → q < size y → locate (node o x y) c p ≡ locate y (frame right o x ∷ c) q
-unfolding locate
-locate-right o x y c p q e h =
-    let z : p - size x ≡ q = omega arith in
-    rw (le-ltb p (size x) (omega arith), lt-ltb p (size x + size y) (omega arith), z)
-
-locate-here : (a : Tree) (c : List Frame) (p : ℕ) → p + 1 ≡ size a → locate a c p ≡ record { part = a; above = c }
-unfolding locate size
-locate-here (leaf g h) c p e = refl
-locate-here (node o x y) c p e = rw (le-ltb p (size x) (omega (arith, size-positive y)), le-ltb p (size x + size y) (omega arith))
 
 module _ {l s n : List ℕ} {p e b next more : ℕ} (N : Noted l s n) (lt : p < e) where
   -- the two steps down from the node with the children x and y

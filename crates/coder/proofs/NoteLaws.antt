@@ -2,72 +2,39 @@
 -- which child comes first, and what the writer leaves.
 use mathlib.Core.Path.{_≡_, refl, sym, ap, ap₂, _∙_}
 use mathlib.Core.Bool.{Bool, true, false}
-use mathlib.Core.List.{List, [], _∷_, _++_, append-assoc}
+use mathlib.Core.List.{List, [], _∷_}
 use Prim.Native.Nat.{ℕ, _+_, _-_, _≤_, _<_}
 use native.Mathlib.Omega.{arith}
 use borrow.Author.Tests.{eqb-true, eqb-false, le-leb, lt-leb, lt-ltb, le-ltb}
 use lib.Dec.{T, eqb, leb}
-use lib.ListN.{length, getD, set, length-append}
-use lib.Seq.{getD-at, getD-set-same, getD-set-other}
-use Rattle.tree.specs.Tree.{Operator, union, difference, Tree, leaf, node, isGroup, sign, postfix, size, mostNodes}
-use Rattle.tree.specs.Context.{left, right, frame, plug, before, after}
+use lib.ListN.{length, getD, set}
+use lib.Seq.{getD-set-same, getD-set-other}
+use Rattle.tree.specs.Tree.{Operator, union, Tree, leaf, node, isGroup, sign, size, mostNodes}
+use Rattle.tree.specs.Context.{left, right, frame, before}
 use Rattle.tree.specs.Parse.{treeOf, isSome, locate}
-use Rattle.tree.specs.Part.{Part}
-use Rattle.tree.proofs.TreeLaws.{size-positive, postfix-length, group-most}
-use Rattle.tree.proofs.ParseLaws.{IsTree, the-tree}
-use Rattle.tree.proofs.PartLaws.{part-list, part-length, part-of-place}
+use Rattle.tree.proofs.TreeLaws.{size-positive, group-most, sign-least}
+use Rattle.tree.proofs.ParseLaws.{IsTree, the-tree, tree-few}
+use Rattle.tree.proofs.PartLaws.{part-length, part-leaf, part-node, part-ends, part-left, part-right, part-of-entry}
 use Rattle.coder.specs.Need.{needOf, need, leftFirst}
 use Rattle.coder.specs.Notes.{NodeAt, NotedBelow, middle, leftIsFirst, Inner, Ordered, Stepped}
 use Rattle.coder.proofs.NeedLaws.{need-most}
 
--- ---- a part's own entry
-pub entry-leaf : {l : List ℕ} {e g : ℕ} {h : T (isGroup g)} → NodeAt l e (leaf g h) → getD l e 0 ≡ g
-unfolding postfix size
-entry-leaf {l} {e} {g} {h} v =
-    ap (λ (x : List ℕ). getD x e 0) (part-list (v .is)) ∙ getD-at (before (v .above)) g (after (v .above)) 0 e (omega (arith, v .is .begins, v .is .ends))
-
-pub entry-node : {l : List ℕ} {e : ℕ} {o : Operator} {x y : Tree} → NodeAt l e (node o x y) → getD l e 0 ≡ sign o
-unfolding postfix size
-entry-node {l} {e} {o} {x} {y} v =
-    ap (λ (z : List ℕ). getD z e 0) (part-list (v .is) ∙ regroup (before (v .above)) (after (v .above)))
-    ∙ getD-at (before (v .above) ++ (postfix x ++ postfix y)) (sign o) (after (v .above)) 0 e
-    (length-append (before (v .above)) (postfix x ++ postfix y) ∙ omega (arith, length-append (postfix x) (postfix y), postfix-length x, postfix-length y, v .is .begins, v .is .ends))
-  where
-    regroup : (p q : List ℕ) → p ++ ((postfix x ++ (postfix y ++ (sign o ∷ []))) ++ q) ≡ (p ++ (postfix x ++ postfix y)) ++ (sign o ∷ q)
-    regroup p q = simp append-assoc
-
-sign-high : (o : Operator) → sign union ≤ sign o
-sign-high union = omega arith
-sign-high difference = omega arith
-
 -- the part of a node whose entry is below the operators is a leaf
 pub as-leaf : {l : List ℕ} {e : ℕ} (a : Tree) → NodeAt l e a → getD l e 0 < sign union → (h : T (isGroup (getD l e 0))) × (a ≡ leaf (getD l e 0) h)
-as-leaf {l} {e} (leaf g h) v lt = rw (entry-leaf v) (h, refl)
-as-leaf {l} {e} (node o x y) v lt = absurd (omega (arith, entry-node v, sign-high o))
+as-leaf {l} {e} (leaf g h) v lt = rw (part-leaf e (v .is)) (h, refl)
+as-leaf {l} {e} (node o x y) v lt = absurd (omega (arith, part-node e (v .is), sign-least o))
 
 -- ---- the parts of a node's children
 module _ {l : List ℕ} {e : ℕ} {o : Operator} {x y : Tree} (v : NodeAt l e (node o x y)) where
-  pub node-ends : e ≡ v .from + size x + size y
-  unfolding size
-  node-ends = omega (arith, v .is .ends)
-
-  pub right-part : Part l (v .from + size x) (e - 1 + 1) y (frame right o x ∷ v .above)
-  unfolding plug before
-  right-part = record {
-    whole = v .is .whole;
-    begins = omega (arith, v .is .begins, length-append (before (v .above)) (postfix x), postfix-length x);
-    ends = omega (arith, node-ends, size-positive y);
+  unfoldable pub right-node : NodeAt l (e - 1) y
+  right-node = record {
+    from = v .from + size x;
+    above = frame right o x ∷ v .above;
+    is = part-right (v .is) (v .from + size x) (e - 1 + 1) refl (omega (arith, part-ends (v .is), size-positive y));
   }
 
-  pub left-part : (d : ℕ) → d + 1 ≡ v .from + size x → Part l (v .from) (d + 1) x (frame left o y ∷ v .above)
-  unfolding plug before
-  left-part d h = record { whole = v .is .whole; begins = v .is .begins; ends = h }
-
-  unfoldable pub right-node : NodeAt l (e - 1) y
-  right-node = record { from = v .from + size x; above = frame right o x ∷ v .above; is = right-part }
-
   unfoldable pub left-node : (d : ℕ) → d + 1 ≡ v .from + size x → NodeAt l d x
-  left-node d h = record { from = v .from; above = frame left o y ∷ v .above; is = left-part d h }
+  left-node d h = record { from = v .from; above = frame left o y ∷ v .above; is = part-left (v .is) (d + 1) h }
 
 -- a node's entry is inside the list
 pub node-inside : {l : List ℕ} {e : ℕ} {a : Tree} → NodeAt l e a → e < length l
@@ -88,7 +55,7 @@ pub record Split (l s n : List ℕ) (e : ℕ) (o : Operator) (x y : Tree) (v : N
 pub split : {l s n : List ℕ} {e i : ℕ} {o : Operator} {x y : Tree} (v : NodeAt l e (node o x y)) → NotedBelow l s n i → e ≤ i → Split l s n e o x y v
 unfolding right-node left-node
 split {l} {s} {n} {e} {i} {o} {x} {y} v N h =
-    let E = node-ends v in
+    let E : e ≡ v .from + size x + size y = omega (arith, part-ends (v .is)) in
     let px = size-positive x in
     let py = size-positive y in
     let m : middle s e ≡ v .from + size x = N .start (e - 1) y (right-node v) (omega arith) in
@@ -132,23 +99,21 @@ module _ {l s n : List ℕ} {i : ℕ} (N : NotedBelow l s n i) (p : i < length s
     where
       go : (e : ℕ) (a : Tree) (v : NodeAt l e a) → e ≡ i → getD l e 0 < sign union → (i ≡ v .from) × (1 ≡ need a)
       go e (leaf g k) v z lt = unfold size need in (omega (arith, v .is .ends), refl)
-      go e (node o x y) v z lt = absurd (omega (arith, entry-node v, sign-high o))
+      go e (node o x y) v z lt = absurd (omega (arith, part-node e (v .is), sign-least o))
 
   pub noted-node : sign union ≤ getD l i 0 → NotedBelow l (set s i (getD s (middle s i - 1) 0)) (set n i (needOf (getD n (middle s i - 1) 0) (getD n (i - 1) 0))) (i + 1)
   noted-node h = noted-next _ _ (λ e a v z. go e a v z (rw z h))
     where
       go : (e : ℕ) (a : Tree) (v : NodeAt l e a) → e ≡ i → sign union ≤ getD l e 0
           → (getD s (middle s i - 1) 0 ≡ v .from) × (needOf (getD n (middle s i - 1) 0) (getD n (i - 1) 0) ≡ need a)
-      go e (leaf g k) v z le = absurd (omega (arith, entry-leaf v, group-most g k))
+      go e (leaf g k) v z le = absurd (omega (arith, part-leaf e (v .is), group-most g k))
       go e (node o x y) v z le =
           let S = split v N (omega arith) in
           rw (sym z) (S .left-start, (unfold need in ap₂ needOf (S .left-need) (S .right-need)))
 
 -- ---- every entry of a tree's list is a node
 pub node-at : {l : List ℕ} (I : IsTree l) (e : ℕ) → e < length l → NodeAt l e (locate (I .tree) [] e .part)
-node-at I e h =
-    let P = part-of-place (I .tree) e _ (omega (arith, ap length (I .list), postfix-length (I .tree))) refl in
-    record { from = _; above = locate (I .tree) [] e .above; is = record { whole = I .list ∙ P .whole; begins = P .begins; ends = P .ends } }
+node-at I e h = record { from = length (before (locate (I .tree) [] e .above)); above = locate (I .tree) [] e .above; is = part-of-entry I e h }
 
 -- ---- what the code computes from the notes, by which child comes first
 module _ (s n : List ℕ) (e k : ℕ) where
@@ -185,9 +150,6 @@ module _ (s n : List ℕ) (e p : ℕ) where
         let g = le-ltb p (middle s e) le in
         record { child = rw g; passed = rw (g, f) }
 
-pub tree-few : (l : List ℕ) → isSome (treeOf l) ≡ true → length l ≤ mostNodes
-tree-few l h = let I = the-tree l h in omega (arith, I .most, ap length (I .list), postfix-length (I .tree))
-
 -- ---- what the pass finds behind an operator of a tree's list
 pub record Operands (s n : List ℕ) (i : ℕ) : Type 0 where
   pub some : 1 ≤ i
@@ -202,12 +164,12 @@ operands l s n i h N lt le = go _ (node-at (the-tree l h) i lt)
     few = tree-few l h
 
     go : (a : Tree) → NodeAt l i a → Operands s n i
-    go (leaf g k) v = absurd (omega (arith, entry-leaf v, group-most g k))
+    go (leaf g k) v = absurd (omega (arith, part-leaf i (v .is), group-most g k))
     go (node o x y) v =
         let S = split v N (omega arith) in
         let p = size-positive x in
         let q = size-positive y in
-        let E = node-ends v in
+        let E = S .ends in
         let m = S .begins in
         record {
           some = omega arith;

@@ -8,6 +8,7 @@ use lib.ListN.{length, getD, set, length-set}
 use Rattle.tree.specs.Tree.{Operator, union, difference, Tree, leaf, node, sign, size}
 use Rattle.tree.specs.Writing.{Wrote}
 use Rattle.tree.proofs.TreeLaws.{size-positive, group-most}
+use Rattle.tree.proofs.PartLaws.{part-leaf, part-node}
 use Rattle.tree.proofs.WritingLaws.{wrote-then, wrote-as}
 use Rattle.player.specs.Limits.{registerCount}
 use Rattle.player.specs.Instructions.{numbersOf}
@@ -16,7 +17,7 @@ use Rattle.coder.specs.Code.{operationKind, code}
 use Rattle.coder.specs.Notes.{NodeAt, middle, leftIsFirst, Inner, Ordered, Writable}
 use Rattle.coder.proofs.NeedLaws.{need-node, need-positive}
 use Rattle.coder.proofs.CodeLaws.{size-node, length-numbers, numbers-leaf, numbers-node}
-use Rattle.coder.proofs.NoteLaws.{as-leaf, entry-leaf, entry-node, node-inside, Split, split}
+use Rattle.coder.proofs.NoteLaws.{as-leaf, node-inside, Split, split}
 
 pub wrote-four : (out : List ℕ) (at a b c d : ℕ) → Wrote out at (set (set (set (set out at a) (at + 1) b) (at + 2) c) (at + 3) d) (at + 4) (a ∷ b ∷ c ∷ d ∷ [])
 wrote-four out at a b c d =
@@ -91,7 +92,7 @@ module _ {l s n : List ℕ} {e k : ℕ} {out : List ℕ} {at : ℕ} (W : Writabl
     inner-node = go (W .part) (W .root) (W .registers)
       where
         go : (a : Tree) → NodeAt l e a → k + need a ≤ registerCount → Inner s e × (k + 1 < registerCount)
-        go (leaf g h) v r = absurd (omega (arith, entry-leaf v, group-most g h))
+        go (leaf g h) v r = absurd (omega (arith, part-leaf e (v .is), group-most g h))
         go (node o x y) v r = (
           split v (W .noted .all) (omega (arith, end-inside)) .inner (omega (arith, end-inside, W .noted .few)),
           omega (arith, need-node o x y, need-positive (second x y)),
@@ -101,7 +102,7 @@ module _ {l s n : List ℕ} {e k : ℕ} {out : List ℕ} {at : ℕ} (W : Writabl
     ready {one} {two} {a} {b} O = go (W .part) (W .root) (W .registers) (W .room)
       where
         go : (a : Tree) → NodeAt l e a → k + need a ≤ registerCount → at + 4 * size a ≤ length out → Ready l s n e k out at one two
-        go (leaf g h) v r q = absurd (omega (arith, entry-leaf v, group-most g h))
+        go (leaf g h) v r q = absurd (omega (arith, part-leaf e (v .is), group-most g h))
         go (node o x y) v r q =
             let S = split v (W .noted .all) (omega (arith, end-inside)) in
             let N = need-node o x y in
@@ -129,8 +130,8 @@ module _ {l s n : List ℕ} {e k : ℕ} {out : List ℕ} {at : ℕ} (W : Writabl
         → Writes l one k out at out₁ next → Writes l two (k + 1) out₁ next out₂ last
         → ((o : Operator) → getD l e 0 ≡ sign o → kind ≡ operationKind o) → Wrote out₂ last out₃ after (kind ∷ k ∷ a ∷ b ∷ [])
         → Writes l e k out at out₃ after
-    writes-node O c d K p (leaf g h) v = absurd (omega (arith, entry-leaf v, group-most g h))
+    writes-node O c d K p (leaf g h) v = absurd (omega (arith, part-leaf e (v .is), group-most g h))
     writes-node {one} {two} {a} {b} {kind} O c d K p (node o x y) v =
         let S = split v (W .noted .all) (omega (arith, end-inside)) in
         wrote-as (wrote-then (wrote-then (c (first x y) (node-one S O)) (d (second x y) (node-two S O))) p)
-        (rw (K o (entry-node v)) (numbers-node o x y k a b (O .left-register ∙ rw (S .order)) (O .right-register ∙ rw (S .order))))
+        (rw (K o (part-node e (v .is))) (numbers-node o x y k a b (O .left-register ∙ rw (S .order)) (O .right-register ∙ rw (S .order))))

@@ -1,6 +1,7 @@
 -- The three answers by their laws; the writer is called at the root, whose part is the whole list.
 use mathlib.Core.Path.{refl, sym, _∙_}
-use Rattle.coder.proofs.CodingLaws.{some-node, root-writable, too-short, not-a-tree, all-written}
+use Rattle.tree.proofs.ParseLaws.{tree-some}
+use Rattle.coder.proofs.CodingLaws.{root-writable, too-short, not-a-tree, all-written}
 use borrow.Author.Needs.{needs}
 use Rattle.coder.proofs.encode.Statement.{statement}
 use Rattle.coder.proofs.encode.Tie as tie
@@ -15,7 +16,7 @@ note-nodes-requires : tie.Need-note-nodes-requires
 note-nodes-requires c κs = (sym (c .before .before .before .is-tree .ensures) ∙ c .before .before .if2 .taken, refl, refl)
 
 sub-write-node : tie.Need-sub-write-node
-sub-write-node c = some-node _ (sym (c .before .before .before .before .before .before .is-tree .ensures) ∙ c .before .before .before .before .before .if2 .taken)
+sub-write-node c = tree-some _ (sym (c .before .before .before .before .before .before .is-tree .ensures) ∙ c .before .before .before .before .before .if2 .taken)
 
 write-node-requires : tie.Need-write-node-requires
 write-node-requires c κs = root-writable _ _ _ _ (sym (c .before .before .before .before .before .before .before .is-tree .ensures) ∙ c .before .before .before .before .before .before .if2 .taken) (c .before .before .before .note-nodes .ensures) (c .before .before .before .before .before .before .before .before .if1 .left)

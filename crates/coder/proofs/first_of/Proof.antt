@@ -1,6 +1,7 @@
 -- The loop keeps a `Descent`: the node at `end` has the position in its part, and `first` is where its code begins.
 use native.Mathlib.Omega.{arith}
-use Rattle.coder.proofs.CodingLaws.{some-node, Descent, descent-start, descent-few, descent-inner, descend, stepped-less, descent-end}
+use Rattle.tree.proofs.ParseLaws.{tree-some}
+use Rattle.coder.proofs.CodingLaws.{Descent, descent-start, descent-few, descent-inner, descend, stepped-less, descent-end}
 use Rattle.coder.proofs.first_of.Statement.{statement}
 use Rattle.coder.proofs.first_of.Tie as tie
 
@@ -11,7 +12,7 @@ abbrev μ-loop : tie.MeasureT-loop
 μ-loop tree starts needs position end₀ first₀ end first = end
 
 sub-end : tie.Need-sub-end Inv-loop μ-loop
-sub-end c = some-node _ (c .before .pre .0)
+sub-end c = tree-some _ (c .before .pre .0)
 
 loop-holds : tie.Need-loop-holds Inv-loop μ-loop
 loop-holds c = descent-start _ _ (c .before .pre .0) (c .before .pre .2)

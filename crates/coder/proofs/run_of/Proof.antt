@@ -1,7 +1,7 @@
 -- The answers by their laws; the count is what lies between the part's start and the node.
 use mathlib.Core.Path.{refl, sym, _∙_}
 use native.Mathlib.Omega.{arith}
-use Rattle.coder.proofs.NoteLaws.{tree-few}
+use Rattle.tree.proofs.ParseLaws.{tree-few}
 use Rattle.coder.proofs.CodingLaws.{no-such-node, no-such-tree, part-start, the-run}
 use borrow.Author.Needs.{needs}
 use Rattle.coder.proofs.run_of.Statement.{statement}
