@@ -1,5 +1,5 @@
 -- The whole call, test by test.
-use mathlib.Core.Path.{_≡_, refl, sym, ap, subst, _∙_}
+use mathlib.Core.Path.{_≡_, sym, ap, _∙_}
 use mathlib.Core.Bool.{Bool, true, false, cond, _||_, true≢false}
 use mathlib.Core.Option.{Option}
 use mathlib.Core.List.{List, []}
@@ -13,9 +13,8 @@ use Rattle.tree.specs.Context.{Frame, before, Place}
 use Rattle.tree.specs.Parse.{treeOf, isSome, locate}
 use Rattle.tree.specs.Part.{Part}
 use Rattle.tree.specs.Writing.{Wrote}
-use Rattle.tree.proofs.TreeLaws.{postfix-length}
-use Rattle.tree.proofs.ParseLaws.{IsTree, no-tree-of}
-use Rattle.tree.proofs.PartLaws.{part-length, part-of-place}
+use Rattle.tree.proofs.ParseLaws.{IsTree, tree-length, no-tree-of}
+use Rattle.tree.proofs.PartLaws.{part-length, part-of-entry}
 use Rattle.tree.proofs.WritingLaws.{wrote-over}
 use Rattle.lift.specs.Standing.{StateIs, Standing}
 use Rattle.lift.specs.Lift.{refused, steps, liftAt, liftIn, liftOf, shortBuffer, notATree, noPosition, badLevels}
@@ -35,9 +34,6 @@ module _ (room : ℕ) (l : List ℕ) (p k : ℕ) where
     says-12 n = in-tree ∙ ap (λ (o : Option Tree). liftIn o p k) (no-tree-of l n)
 
     module _ (W : IsTree l) where
-      size-is : size (W .tree) ≡ length l
-      size-is = sym (ap length (W .list) ∙ postfix-length (W .tree))
-
       abbrev pub place : Place
       place = locate (W .tree) [] p
 
@@ -45,16 +41,14 @@ module _ (room : ℕ) (l : List ℕ) (p k : ℕ) where
       in-this = in-tree ∙ ap (λ (o : Option Tree). liftIn o p k) (W .is)
 
       pub says-13 : length l ≤ p → liftOf room l p k ≡ refused noPosition
-      says-13 q = in-this ∙ ap (λ (b : Bool). cond b (refused noPosition) (liftAt place k)) (le-leb (size (W .tree)) p (omega (arith, size-is)))
+      says-13 q = in-this ∙ ap (λ (b : Bool). cond b (refused noPosition) (liftAt place k)) (le-leb (size (W .tree)) p (omega (arith, tree-length W)))
 
       module _ (q : p < length l) where
         pub the-part : Part l (length (before (place .above))) (p + 1) (place .part) (place .above)
-        the-part =
-            subst (λ (x : List ℕ). Part x (length (before (place .above))) (p + 1) (place .part) (place .above)) (sym (W .list))
-            (part-of-place (W .tree) p (length (before (place .above))) (omega (arith, size-is)) refl)
+        the-part = part-of-entry W p q
 
         at-place : liftOf room l p k ≡ liftAt place k
-        at-place = in-this ∙ ap (λ (b : Bool). cond b (refused noPosition) (liftAt place k)) (lt-leb (size (W .tree)) p (omega (arith, size-is)))
+        at-place = in-this ∙ ap (λ (b : Bool). cond b (refused noPosition) (liftAt place k)) (lt-leb (size (W .tree)) p (omega (arith, tree-length W)))
 
         -- by the test of the levels, where `level` is the part's
         by-test : (level : ℕ) → level ≡ length (place .above) → (b : Bool) → (eqb k 0 || leb level k) ≡ b → liftOf room l p k ≡ cond b (refused badLevels) (steps k (place .part) (place .above) 0)

@@ -13,6 +13,7 @@ use lib.Seq.{take-at}
 use Rattle.tree.specs.Tree.{Tree, mostNodes, postfix, size, leaves, isIn, collect, groups}
 use Rattle.tree.specs.Parse.{parse, treeOf}
 use Rattle.tree.proofs.TreeLaws.{postfix-length}
+use Rattle.tree.proofs.GroupLaws.{groups-leaves}
 use Rattle.tree.proofs.ParseLaws.{parse-sound, tree-of-postfix}
 use Rattle.text.specs.Parts.{Parts, last, part, split}
 use Rattle.text.specs.Line.{lineFeed}
@@ -22,8 +23,7 @@ use Rattle.sheet.specs.Accepted.{LiftRange, LiftsTo, Accepted}
 use Rattle.sheet.specs.Holding.{InRange, groupsIn, Sound}
 use Rattle.sheet.specs.declared.Line.{Line}
 use Rattle.sheet.specs.declared.Line.the-variants.{Group, Operator, Lift, Mark, End, Bad}
-use Rattle.sheet.proofs.TreeMoreLaws.{one-tree, groups-postfix}
-use Rattle.sheet.proofs.DistinctLaws.{collect-in}
+use Rattle.sheet.proofs.EntriesLaws.{one-tree, groups-postfix}
 use Rattle.sheet.proofs.LineAtLaws.{line-at-range, OneLine, one-line, run-end}
 use Rattle.sheet.proofs.SoundLaws.{order-none, order-of, sound-next, sound-blank}
 use Rattle.sheet.proofs.HoldLaws.{marks-few}
@@ -76,10 +76,6 @@ path-next most s st at (Mark g) p q r e = path-over s st at _ 2 _ p (omega arith
 path-next most s st at End p q r e = path-over s st at _ ended _ p (omega arith)
 
 -- ---- at the end
-is-in-none : (g : ℕ) → isIn [] g ≡ false
-unfolding isIn
-is-in-none g = refl
-
 accepted-of : (most : ℕ) (s : List ℕ) (st : State) (at : ℕ) → most ≤ mostNodes → Sound most st → Path s st at → st .phase ≡ ended → Accepted most s st
 accepted-of most s st at m S p e =
     let w = one-tree (st .entries) (S .forest) (S .one (λ z. omega (arith, e))) in
@@ -95,7 +91,7 @@ accepted-of most s st at m S p e =
       known = k;
       different = rw k at (S .different);
       once = S .once;
-      marked = λ g i. sym (collect-in [] (leaves t) g ∙ rw (is-in-none g)) ∙ ap (λ (xs : List ℕ). isIn xs g) (sym k) ∙ S .marked g i;
+      marked = λ g i. sym (groups-leaves t g) ∙ ap (λ (xs : List ℕ). isIn xs g) (sym k) ∙ S .marked g i;
       few = marks-few S;
       end = p .to;
       asked = p .lifts;

@@ -1,6 +1,6 @@
 -- The form of a line, by where its tabs stand, and the ranges of its numbers.
 use mathlib.Core.Path.{_≡_, refl, sym, ap, _∙_}
-use mathlib.Core.Bool.{Bool, true, false, cond, _&&_, false≢true}
+use mathlib.Core.Bool.{Bool, true, false, cond, _&&_}
 use mathlib.Core.List.{List, [], _∷_}
 use mathlib.Core.Option.{Option, some, none}
 use Prim.Native.Nat.{ℕ, zero, suc, _+_, _≤_, _<_, min}
@@ -14,7 +14,7 @@ use Rattle.tree.specs.Tree.{Operator as TreeOperator, union, difference, sign, 
 use Rattle.text.specs.Decimal.{decimal, noNumber, capped, digits}
 use Rattle.text.specs.Parts.{Parts, last, part, split, join, ahead}
 use Rattle.text.specs.Line.{tab}
-use Rattle.text.proofs.DecimalLaws.{digits-decimal, digits-free}
+use Rattle.text.proofs.DecimalLaws.{and-both, digits-decimal, digits-free}
 use Rattle.text.proofs.PartsLaws.{split-last, split-all, split-first, join-split}
 use Rattle.sheet.specs.Form.{letterG, letterK, letterL, letterU, letterD, letterE, mostPosition, isPosition, leastLevels, mostLevels, isLevels, letterOf, ranged, bare, oneNumber, twoNumbers, formOf, lineOf}
 use Rattle.sheet.specs.Accepted.{LiftRange}
@@ -171,10 +171,6 @@ two-other kind o u h = rw (ne-eqb kind letterL h)
 either : (b : Bool) (x y : Line) → (b ≡ true → InRange x) → InRange y → InRange (cond b x y)
 either true x y p q = p refl
 either false x y p q = q
-
-and-both : (a b : Bool) → (a && b) ≡ true → (a ≡ true) × (b ≡ true)
-and-both true b e = (refl, e)
-and-both false b e = absurd (false≢true e)
 
 bare-range : (kind : ℕ) → InRange (bare kind)
 bare-range kind =

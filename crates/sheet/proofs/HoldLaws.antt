@@ -11,14 +11,14 @@ use lib.Seq.{take-at}
 use Rattle.tree.specs.Tree.{isGroup, isIn, withNew}
 use Rattle.tree.specs.Pass.{pass}
 use Rattle.tree.specs.Writing.{over, Wrote}
+use Rattle.tree.proofs.GroupLaws.{distinct-most}
 use Rattle.tree.proofs.WritingLaws.{wrote-nothing, wrote-one, wrote-then, wrote-as, wrote-over}
 use Rattle.sheet.specs.Reading.{mostGroups, mostBytes, State, place, trees, first, orderFault, kindFault, faultOf, entered, next, blank, Outcome, accepted, refused, LiftLine}
 use Rattle.sheet.specs.Holding.{InRange, Sound, Holds, Stepped, Gives}
 use Rattle.sheet.specs.declared.Line.{Line}
 use Rattle.sheet.specs.declared.Line.the-variants.{Group, Operator, Lift, Mark, End, Bad}
 use Rattle.sheet.specs.declared.Progress.{Progress}
-use Rattle.sheet.proofs.DistinctLaws.{distinct-fits}
-use Rattle.sheet.proofs.TreeMoreLaws.{more-group, more-operator}
+use Rattle.sheet.proofs.EntriesLaws.{more-group, more-operator}
 use Rattle.sheet.proofs.SoundLaws.{first-none, first-some, first-second, sound-next, sound-mark, sound-lift, sound-end, sound-blank}
 
 -- what was written at the front of zeros
@@ -33,7 +33,7 @@ pub order-second : (f F rest : ℕ) → f ≡ F → f ≡ 0 → first F rest ≡
 order-second f F rest e z = first-second F rest (sym e ∙ z)
 
 pub marks-few : {most : ℕ} {st : State} → Sound most st → length (st .marks) ≤ mostGroups
-marks-few {st = st} S = omega (arith, distinct-fits (st .marks) (st .groups) (S .once) (S .marked), S .different)
+marks-few {st = st} S = omega (arith, distinct-most (st .marks) (st .groups) (S .once) (S .marked), S .different)
 
 module _ {most : ℕ} {st : State} {p : Progress} {tree groups marks : List ℕ} (h : Holds most st p tree groups marks) where
   pub nodes-is : p .nodes ≡ length (st .entries)
@@ -199,7 +199,7 @@ module _ {most : ℕ} {st : State} {p : Progress} {tree groups marks : List ℕ}
   pub mark-room : (g : ℕ) → faultOf most st (Mark g) ≡ 0 → p .marked < length marks
   unfolding faultOf
   mark-room g e =
-      let z = first-none _ _ e in
+      let z : (orderFault (st .phase) (length (trees (st .entries))) 2 ≡ 0) × (kindFault most st (Mark g) ≡ 0) = first-none _ _ e in
       omega (arith, marks-few (sound-mark most st (h .sound) g 0 (z .0) (z .1)), length-append (st .marks) (g ∷ []), marked-is, marks-long)
 
   pub stepped-end : (after : ℕ) → faultOf most st End ≡ 0

@@ -1,7 +1,6 @@
 -- The laws of the definitions in specs/, for this crate and those above it.
 mod Auto
-mod TreeMoreLaws
-pub mod DistinctLaws
+mod EntriesLaws
 pub mod FormLaws
 pub mod LineAtLaws
 mod SoundLaws

@@ -11,12 +11,12 @@ use lib.ListN.{length, length-append}
 use Rattle.tree.specs.Tree.{Operator as TreeOperator, sign, isGroup, isIn, withNew, collect, Distinct}
 use Rattle.tree.specs.Parse.{waiting}
 use Rattle.tree.specs.Pass.{pass}
+use Rattle.tree.proofs.GroupLaws.{end-cases, is-in-new, collect-append, distinct-end}
 use Rattle.sheet.specs.Reading.{mostGroups, LiftLine, State, place, ended, trees, first, formFault, orderFault, kindFault, faultOf, entered, next, blank}
 use Rattle.sheet.specs.Holding.{InRange, groupsIn, Sound}
 use Rattle.sheet.specs.declared.Line.{Line}
 use Rattle.sheet.specs.declared.Line.the-variants.{Group, Operator, Lift, Mark, End, Bad}
-use Rattle.sheet.proofs.TreeMoreLaws.{More, more-group, more-operator, groups-append, groups-one, groups-sign}
-use Rattle.sheet.proofs.DistinctLaws.{with-new-in, collect-append, snoc-cases, distinct-snoc}
+use Rattle.sheet.proofs.EntriesLaws.{More, more-group, more-operator, groups-append, groups-one, groups-sign}
 
 -- ---- the first of two faults
 pub first-none : (f g : ℕ) → first f g ≡ 0 → (f ≡ 0) × (g ≡ 0)
@@ -93,7 +93,7 @@ module _ (most : ℕ) (st : State) (S : Sound most st) where
       let h = leb-false most (length (st .entries)) (a .0) in
       let b = off (not (isIn (st .groups) g) && leb mostGroups (length (st .groups))) 5 0 (a .1) in
       sound-entered g after (suc (length (trees (st .entries)))) (withNew (st .groups) g) p h (more-group (st .entries) g r (S .forest))
-      (known-more g r) (few (isIn (st .groups) g) (b .0)) (λ x i. with-new-in (st .groups) g x ∙ rw i)
+      (known-more g r) (few (isIn (st .groups) g) (b .0)) (λ x i. is-in-new (st .groups) g x ∙ rw i)
     where
       few : (b : Bool) → (not b && leb mostGroups (length (st .groups))) ≡ false → length (cond b (st .groups) (st .groups ++ (g ∷ []))) ≤ mostGroups
       few true e = S .different
@@ -133,8 +133,8 @@ module _ (most : ℕ) (st : State) (S : Sound most st) where
       go false b p q e = absurd (omega arith)
       go true true p q e = absurd (omega arith)
       go true false p q e =
-          sound-over 2 (st .start) (st .marks ++ (g ∷ [])) (st .lifts) (one-waits 2 (omega arith) o) (distinct-snoc (st .marks) g (S .once) q)
-          (λ x i. snoc-cases _ (st .marks) g x i (S .marked x) (λ r. ap (isIn (st .groups)) r ∙ p))
+          sound-over 2 (st .start) (st .marks ++ (g ∷ [])) (st .lifts) (one-waits 2 (omega arith) o) (distinct-end (st .marks) g (S .once) q)
+          (λ x i. end-cases _ (st .marks) g x i (S .marked x) (λ r. ap (isIn (st .groups)) r ∙ p))
 
   pub sound-lift : (p n after : ℕ) → orderFault (st .phase) (length (trees (st .entries))) 1 ≡ 0 → Sound most (next st (Lift p n) after)
   sound-lift p n after o = sound-over 1 (st .start) (st .marks) _ (one-waits 1 (omega arith) o) (S .once) (S .marked)

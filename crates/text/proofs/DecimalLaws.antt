@@ -68,7 +68,7 @@ digit-of d e = go (leb nought d) (leb d (nought + 9)) refl refl e
     go true false p q e = absurd (false≢true e)
     go false b p q e = absurd (false≢true e)
 
-and-both : (a b : Bool) → (a && b) ≡ true → (a ≡ true) × (b ≡ true)
+pub and-both : (a b : Bool) → (a && b) ≡ true → (a ≡ true) × (b ≡ true)
 and-both true b e = (refl, e)
 and-both false b e = absurd (false≢true e)
 
