@@ -3,14 +3,14 @@
 use mathlib.Core.Path.{_≡_, refl, sym, ap, _∙_}
 use mathlib.Core.Bool.{Bool, true, false, cond}
 use mathlib.Core.Option.{some}
-use mathlib.Core.List.{List, [], _∷_, _++_}
+use mathlib.Core.List.{List, [], _++_}
 use Prim.Native.Nat.{ℕ, _+_, _-_, _≤_, _<_}
 use native.Mathlib.Omega.{arith}
 use borrow.Author.Tests.{lt-ltb, le-ltb, ltb-true, ltb-false}
 use lib.Dec.{ltb}
 use lib.ListN.{length, getD, length-append}
 use Rattle.tree.specs.Tree.{Operator, Tree, leaf, node, size}
-use Rattle.tree.specs.Context.{left, right, Frame, frame, plug, before}
+use Rattle.tree.specs.Context.{right, plug, before}
 use Rattle.tree.specs.Parse.{treeOf, isSome, locate}
 use Rattle.tree.specs.Writing.{over}
 use Rattle.tree.proofs.TreeLaws.{size-positive, postfix-length}

@@ -3,28 +3,27 @@
 use mathlib.Core.Path.{_≡_, refl, sym, ap, _∙_}
 use mathlib.Core.Bool.{Bool, true, false, cond}
 use mathlib.Core.List.{List, [], _∷_, _++_}
-use mathlib.Core.Option.{some}
 use Prim.Native.Nat.{ℕ, zero, suc, _+_, _-_, _≤_, _<_}
 use native.Mathlib.Omega.{arith}
 use borrow.Author.Tests.{eqb-true, eqb-false, ltb-true, ltb-false}
 use lib.Dec.{eqb, ltb}
 use lib.ListN.{length, replicate, take, drop}
 use lib.Seq.{take-at}
-use Rattle.tree.specs.Tree.{Tree, mostNodes, postfix, size, leaves, isIn, collect, groups}
-use Rattle.tree.specs.Parse.{parse, treeOf}
+use Rattle.tree.specs.Tree.{Tree, mostNodes, postfix, size, isIn, collect, groups}
+use Rattle.tree.specs.Parse.{treeOf}
 use Rattle.tree.proofs.TreeLaws.{postfix-length}
 use Rattle.tree.proofs.GroupLaws.{groups-leaves}
 use Rattle.tree.proofs.ParseLaws.{parse-sound, tree-of-postfix}
 use Rattle.text.specs.Parts.{Parts, last, part, split}
 use Rattle.text.specs.Line.{lineFeed}
-use Rattle.sheet.specs.Form.{mostPosition, leastLevels, mostLevels, lineOf, lineAt}
-use Rattle.sheet.specs.Reading.{mostBytes, mostGroups, mostSheetNodes, LiftLine, State, place, ended, trees, orderFault, kindFault, faultOf, next, blank, Outcome, accepted, refused, run, readWithin, reading, answer}
+use Rattle.sheet.specs.Form.{lineOf, lineAt}
+use Rattle.sheet.specs.Reading.{mostBytes, mostGroups, mostSheetNodes, LiftLine, State, ended, trees, faultOf, next, blank, Outcome, accepted, refused, run, readWithin, reading, answer}
 use Rattle.sheet.specs.Accepted.{LiftRange, LiftsTo, Accepted}
 use Rattle.sheet.specs.Holding.{InRange, groupsIn, Sound}
 use Rattle.sheet.specs.declared.Line.{Line}
 use Rattle.sheet.specs.declared.Line.the-variants.{Group, Operator, Lift, Mark, End, Bad}
 use Rattle.sheet.proofs.EntriesLaws.{one-tree, groups-postfix}
-use Rattle.sheet.proofs.LineAtLaws.{line-at-range, OneLine, one-line, run-end}
+use Rattle.sheet.proofs.LineAtLaws.{line-at-range, one-line, run-end}
 use Rattle.sheet.proofs.SoundLaws.{order-none, order-of, sound-next, sound-blank}
 use Rattle.sheet.proofs.HoldLaws.{marks-few}
 

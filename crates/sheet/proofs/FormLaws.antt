@@ -3,24 +3,23 @@ use mathlib.Core.Path.{_≡_, refl, sym, ap, _∙_}
 use mathlib.Core.Bool.{Bool, true, false, cond, _&&_}
 use mathlib.Core.List.{List, [], _∷_}
 use mathlib.Core.Option.{Option, some, none}
-use Prim.Native.Nat.{ℕ, zero, suc, _+_, _≤_, _<_, min}
-use native.Mathlib.Nat.{not-suc-le-zero, le-of-lt}
+use Prim.Native.Nat.{ℕ, _+_, _≤_, _<_}
+use native.Mathlib.Nat.{not-suc-le-zero}
 use native.Mathlib.Omega.{arith}
-use borrow.Author.Tests.{eq-eqb, ne-eqb, lt-leb, leb-true, eqb-true, ltb-true, ltb-false}
+use borrow.Author.Tests.{eq-eqb, ne-eqb, lt-leb, leb-true, ltb-true, ltb-false}
 use lib.Dec.{eqb, leb, ltb}
 use lib.ListN.{length, getD, take, drop}
 use lib.Seq.{length-take-le}
-use Rattle.tree.specs.Tree.{Operator as TreeOperator, union, difference, sign, isGroup, mostGroup, isIn}
-use Rattle.text.specs.Decimal.{decimal, noNumber, capped, digits}
+use Rattle.tree.specs.Tree.{union, difference, isGroup, mostGroup, isIn}
+use Rattle.text.specs.Decimal.{decimal, noNumber, capped}
 use Rattle.text.specs.Parts.{Parts, last, part, split, join, ahead}
 use Rattle.text.specs.Line.{tab}
 use Rattle.text.proofs.DecimalLaws.{and-both, digits-decimal, digits-free}
 use Rattle.text.proofs.PartsLaws.{split-last, split-all, split-first, join-split}
 use Rattle.sheet.specs.Form.{letterG, letterK, letterL, letterU, letterD, letterE, mostPosition, isPosition, leastLevels, mostLevels, isLevels, letterOf, ranged, bare, oneNumber, twoNumbers, formOf, lineOf}
-use Rattle.sheet.specs.Accepted.{LiftRange}
 use Rattle.sheet.specs.Holding.{InRange}
 use Rattle.sheet.specs.declared.Line.{Line}
-use Rattle.sheet.specs.declared.Line.the-variants.{Group, Operator, Lift, Mark, End, Bad}
+use Rattle.sheet.specs.declared.Line.the-variants.{Group, Lift, Mark, End, Bad}
 
 -- ---- a number in code: tests that refuse 65,535 and above do not see the cap
 and-second : (a b : Bool) → b ≡ false → (a && b) ≡ false

@@ -1,19 +1,18 @@
 -- The code's numbers and arrays follow the state: a line's fault in the code's numbers, and what each kind of line leaves.
-use mathlib.Core.Path.{_≡_, refl, sym, ap, _∙_}
-use mathlib.Core.Bool.{Bool, true, false, not, cond, _&&_}
+use mathlib.Core.Path.{_≡_, refl, sym, _∙_}
+use mathlib.Core.Bool.{true, false, not, cond, _&&_}
 use mathlib.Core.List.{List, [], _∷_, _++_}
-use Prim.Native.Nat.{ℕ, suc, _+_, _-_, _≤_, _<_}
+use Prim.Native.Nat.{ℕ, _+_, _-_, _≤_, _<_}
 use native.Mathlib.Omega.{arith}
-use borrow.Author.Tests.{eq-eqb, ne-eqb, le-ltb}
-use lib.Dec.{eqb, leb, ltb}
+use lib.Dec.{leb, ltb}
 use lib.ListN.{length, replicate, set, take, drop, length-append, length-replicate}
 use lib.Seq.{take-at}
 use Rattle.tree.specs.Tree.{isGroup, isIn, withNew}
 use Rattle.tree.specs.Pass.{pass}
-use Rattle.tree.specs.Writing.{over, Wrote}
+use Rattle.tree.specs.Writing.{Wrote}
 use Rattle.tree.proofs.GroupLaws.{distinct-most}
 use Rattle.tree.proofs.WritingLaws.{wrote-nothing, wrote-one, wrote-then, wrote-as, wrote-over}
-use Rattle.sheet.specs.Reading.{mostGroups, mostBytes, State, place, trees, first, orderFault, kindFault, faultOf, entered, next, blank, Outcome, accepted, refused, LiftLine}
+use Rattle.sheet.specs.Reading.{mostGroups, State, trees, first, orderFault, kindFault, faultOf, entered, next, blank, accepted}
 use Rattle.sheet.specs.Holding.{InRange, Sound, Holds, Stepped, Gives}
 use Rattle.sheet.specs.declared.Line.{Line}
 use Rattle.sheet.specs.declared.Line.the-variants.{Group, Operator, Lift, Mark, End, Bad}

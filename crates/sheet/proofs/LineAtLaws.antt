@@ -1,8 +1,8 @@
 -- The line at a byte, and one line more of reading.
 use mathlib.Core.Path.{_≡_, refl, sym, ap, _∙_}
 use mathlib.Core.Bool.{Bool, true, false, cond}
-use mathlib.Core.List.{List, [], _∷_}
-use Prim.Native.Nat.{ℕ, suc, _+_, _-_, _≤_, _<_}
+use mathlib.Core.List.{List}
+use Prim.Native.Nat.{ℕ, _+_, _-_, _≤_, _<_}
 use native.Mathlib.Nat.{le-of-lt}
 use native.Mathlib.Omega.{arith}
 use borrow.Author.Tests.{ne-eqb, ltb-true, ltb-false}
@@ -13,10 +13,9 @@ use Rattle.text.specs.Parts.{Parts, last, part, split, ahead}
 use Rattle.text.specs.Line.{lineFeed}
 use Rattle.text.proofs.PartsLaws.{split-all, split-first, ahead-most}
 use Rattle.sheet.specs.Form.{lineOf, firstLine, lineAt}
-use Rattle.sheet.specs.Reading.{State, ended, faultOf, next, Outcome, accepted, refused, run}
+use Rattle.sheet.specs.Reading.{State, ended, faultOf, next, accepted, refused, run}
 use Rattle.sheet.specs.Holding.{InRange}
-use Rattle.sheet.specs.declared.Line.{Line}
-use Rattle.sheet.specs.declared.Line.the-variants.{Group, Operator, Lift, Mark, End, Bad}
+use Rattle.sheet.specs.declared.Line.the-variants.{Bad}
 use Rattle.sheet.specs.declared.LineAt.{LineAt}
 use Rattle.sheet.proofs.FormLaws.{line-range}
 

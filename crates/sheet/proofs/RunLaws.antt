@@ -1,12 +1,9 @@
 -- The loop of `read_lines`: what is left of the lines, read from the state that the code's numbers stand for, gives the
 -- whole sheet's outcome.
-use mathlib.Core.Path.{_≡_, refl, sym, ap, ap₂, subst, _∙_}
-use mathlib.Core.Bool.{Bool, true, false, cond}
-use mathlib.Core.List.{List, []}
+use mathlib.Core.Path.{_≡_, sym, ap, ap₂, subst, _∙_}
+use mathlib.Core.List.{List}
 use Prim.Native.Nat.{ℕ, _+_, _≤_, _<_}
-use native.Mathlib.Omega.{arith}
 use borrow.Author.Tests.{eq-eqb, ne-eqb, lt-ltb, le-ltb}
-use lib.Dec.{eqb, ltb}
 use lib.ListN.{length, replicate, drop}
 use Rattle.text.specs.Parts.{split}
 use Rattle.text.specs.Line.{lineFeed}
@@ -15,7 +12,6 @@ use Rattle.sheet.specs.Reading.{mostBytes, mostGroups, mostSheetNodes, S
 use Rattle.sheet.specs.Holding.{Holds, Stepped, Gives}
 use Rattle.sheet.specs.declared.Line.{Line}
 use Rattle.sheet.specs.declared.Progress.{Progress}
-use Rattle.sheet.specs.declared.Sheet.{Sheet}
 use Rattle.sheet.proofs.LineAtLaws.{one-line, run-end}
 use Rattle.sheet.proofs.HoldLaws.{tree-long, holds-blank}
 

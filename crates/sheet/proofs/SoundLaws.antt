@@ -1,15 +1,13 @@
 -- A line without fault leads from a sound state to a sound state.
-use mathlib.Core.Path.{_≡_, refl, sym, ap, subst, _∙_}
-use mathlib.Core.Bool.{Bool, true, false, not, cond, _&&_, _||_, true≢false}
+use mathlib.Core.Path.{_≡_, refl, sym, ap, _∙_}
+use mathlib.Core.Bool.{Bool, true, false, not, cond, _&&_, true≢false}
 use mathlib.Core.List.{List, [], _∷_, _++_}
-use mathlib.Core.Option.{some}
 use Prim.Native.Nat.{ℕ, suc, _+_, _-_, _≤_, _<_}
 use native.Mathlib.Omega.{arith}
-use borrow.Author.Tests.{ltb-true, ltb-false, leb-false, eqb-true, eqb-false, eq-eqb, ne-eqb, lt-ltb}
+use borrow.Author.Tests.{ltb-false, leb-false, eqb-true, eqb-false, eq-eqb, ne-eqb, lt-ltb}
 use lib.Dec.{eqb, leb, ltb}
 use lib.ListN.{length, length-append}
-use Rattle.tree.specs.Tree.{Operator as TreeOperator, sign, isGroup, isIn, withNew, collect, Distinct}
-use Rattle.tree.specs.Parse.{waiting}
+use Rattle.tree.specs.Tree.{isGroup, isIn, withNew, collect, Distinct}
 use Rattle.tree.specs.Pass.{pass}
 use Rattle.tree.proofs.GroupLaws.{end-cases, is-in-new, collect-append, distinct-end}
 use Rattle.sheet.specs.Reading.{mostGroups, LiftLine, State, place, ended, trees, first, formFault, orderFault, kindFault, faultOf, entered, next, blank}

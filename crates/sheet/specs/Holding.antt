@@ -1,15 +1,14 @@
 -- How the code's progress and arrays stand for a state of the definition. Only contracts of inner functions cite this.
 use mathlib.Core.Path.{_≡_}
-use mathlib.Core.Bool.{Bool, true, false, cond}
+use mathlib.Core.Bool.{true, cond}
 use mathlib.Core.List.{List, [], _∷_}
 use mathlib.Core.Option.{some}
-use Prim.Native.Nat.{ℕ, _+_, _≤_, _<_}
+use Prim.Native.Nat.{ℕ, _+_, _≤_}
 use lib.ListN.{length, replicate}
-use Rattle.tree.specs.Tree.{Operator as TreeOperator, Tree, sign, isGroup, isIn, collect, Distinct}
+use Rattle.tree.specs.Tree.{Operator as TreeOperator, sign, isGroup, isIn, collect, Distinct}
 use Rattle.tree.specs.Parse.{waiting}
 use Rattle.tree.specs.Writing.{over, Wrote}
-use Rattle.sheet.specs.Form.{isPosition, isLevels}
-use Rattle.sheet.specs.Reading.{mostBytes, mostGroups, State, trees, Outcome, accepted, refused, faultOf, next}
+use Rattle.sheet.specs.Reading.{mostGroups, State, trees, Outcome, accepted, refused, faultOf, next}
 use Rattle.sheet.specs.Accepted.{LiftRange}
 use Rattle.sheet.specs.declared.Line.{Line}
 use Rattle.sheet.specs.declared.Line.the-variants.{Group, Operator, Lift, Mark, End, Bad}

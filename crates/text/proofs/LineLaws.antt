@@ -1,19 +1,17 @@
 -- The word and the numbers of a line, and the lines of a text, can be read back from the bytes uniquely: LF and tab stand
 -- in no field, so that splitting at them gives the fields back, and a number is the only one with its digits.
 use mathlib.Core.Path.{_≡_, refl, sym, ap, ap₂, _∙_}
-use mathlib.Core.Bool.{Bool, true, false, _||_}
+use mathlib.Core.Bool.{false}
 use mathlib.Core.List.{List, [], _∷_, _++_, append-assoc, append-nil}
-use Prim.Native.Nat.{ℕ, suc, _+_, _≤_, _<_}
+use Prim.Native.Nat.{ℕ, _+_, _≤_, _<_}
 use native.Mathlib.Omega.{arith}
-use borrow.Author.Tests.{ne-eqb}
-use lib.Dec.{eqb}
 use lib.ListN.{length, getD, take, drop, length-append, take-append-drop}
 use lib.Seq.{take-suc}
 use native.Mathlib.Numerals.{add-one}
 use Rattle.tree.specs.Tree.{isIn}
 use Rattle.tree.proofs.TreeLaws.{is-in-append}
 use Rattle.text.specs.Decimal.{digits}
-use Rattle.text.specs.Parts.{Parts, last, part, split, join, Free}
+use Rattle.text.specs.Parts.{part, split, join, Free}
 use Rattle.text.specs.Line.{tab, lineFeed, fields, line, Row, lines, Plain, AllPlain, field, fieldsAfter}
 use Rattle.text.proofs.DecimalLaws.{digits-free, digits-injective}
 use Rattle.text.proofs.PartsLaws.{split-part, split-join, split-injective}

@@ -2,13 +2,13 @@
 use mathlib.Core.Path.{_≡_, refl, sym, ap, _∙_}
 use mathlib.Core.Bool.{Bool, true, false, cond}
 use mathlib.Core.List.{List, [], _∷_, _++_, append-assoc, append-nil}
-use Prim.Native.Nat.{ℕ, _+_, _-_, _≤_, _<_}
+use Prim.Native.Nat.{ℕ, _+_, _-_, _<_}
 use native.Mathlib.Omega.{arith}
 use borrow.Author.Tests.{ltb-true, ltb-false, lt-ltb, le-ltb}
 use lib.Dec.{ltb}
 use lib.ListN.{length, length-append}
-use Rattle.tree.specs.Tree.{Operator, Tree, leaf, node, postfix, size, sign, selects, apply, Equivalent, Over}
-use Rattle.tree.specs.Context.{Side, left, right, Frame, frame, sided, plug, before, after, position, selectsAbove, OverAbove, Place}
+use Rattle.tree.specs.Tree.{Operator, Tree, leaf, node, postfix, size, selects, Over}
+use Rattle.tree.specs.Context.{left, right, Frame, frame, sided, plug, before, after, position, selectsAbove, OverAbove, Place}
 use Rattle.tree.specs.Parse.{locate}
 use Rattle.tree.proofs.TreeLaws.{postfix-length, size-positive}
 

@@ -1,17 +1,16 @@
 -- What a part says of the list, where it begins, and what the scans find around it.
 use mathlib.Core.Path.{_≡_, refl, sym, ap, _∙_}
 use mathlib.Core.List.{List, [], _∷_, _++_, append-assoc, reverse, reverse-append}
-use Prim.Native.Nat.{ℕ, zero, suc, _+_, _-_, _≤_, _<_}
+use Prim.Native.Nat.{ℕ, _+_, _-_, _≤_, _<_}
 use native.Mathlib.Omega.{arith}
 use lib.Dec.{T}
 use lib.ListN.{length, getD, take, drop, length-append, length-reverse}
 use lib.Seq.{take-at, drop-at, getD-at, getD-drop}
 use Rattle.tree.specs.Tree.{Operator, union, difference, Tree, leaf, node, isGroup, sign, postfix, size}
-use Rattle.tree.specs.Context.{Side, left, right, Frame, frame, plug, before, after, Place}
+use Rattle.tree.specs.Context.{left, right, Frame, frame, plug, before, after}
 use Rattle.tree.specs.Parse.{locate}
 use Rattle.tree.specs.Part.{Part, kindOf, aboveOf}
 use Rattle.tree.specs.Scan.{operatorKind, onward, backward}
-use Rattle.tree.specs.declared.Above.{Above}
 use Rattle.tree.specs.declared.Above.the-variants.{Root, Under}
 use Rattle.tree.proofs.TreeLaws.{postfix-length, size-positive}
 use Rattle.tree.proofs.ContextLaws.{postfix-plug, found-at}

@@ -3,17 +3,16 @@
 use mathlib.Core.Path.{_≡_, refl, sym, ap, subst, _∙_}
 use mathlib.Core.Bool.{Bool, true, false, cond}
 use mathlib.Core.List.{List, [], _∷_, _++_, append-assoc, append-nil}
-use mathlib.Core.Option.{Option, some, none}
+use mathlib.Core.Option.{some, none}
 use Prim.Native.Nat.{ℕ, zero, suc, _+_, _-_, _<_, _≤_}
 use native.Mathlib.Omega.{arith}
 use native.Mathlib.Numerals.{add-one}
 use lib.Dec.{T, T-prop, eqb}
-use borrow.Author.Tests.{eqb-true, eqb-false, eq-eqb}
+use borrow.Author.Tests.{eqb-true}
 use lib.ListN.{length, getD, set, drop, drop-of-length-le}
 use lib.Seq.{drop-cons, getD-set-same, getD-set-other}
 use Rattle.tree.specs.Tree.{Operator, union, difference, Tree, leaf, node, isGroup, postfix, size, sign}
-use Rattle.tree.specs.Pass.{Entry, group, operator, neither, classify, entryOf, fold, operated, pushed, andThen, pass, stacked}
-use Rattle.tree.proofs.TreeLaws.{group-most}
+use Rattle.tree.specs.Pass.{Entry, group, operator, neither, classify, entryOf, fold, pushed, andThen, pass, stacked}
 
 -- ---- what a number of a tree's list is
 pub entry-sign : (o : Operator) → entryOf (sign o) ≡ operator o

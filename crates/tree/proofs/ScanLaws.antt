@@ -2,14 +2,14 @@
 use mathlib.Core.Path.{_≡_, refl, sym, ap, subst, _∙_}
 use mathlib.Core.Bool.{Bool, true, false, cond, true≢false}
 use mathlib.Core.List.{List, [], _∷_, _++_, append-assoc, reverse, reverse-append}
-use Prim.Native.Nat.{ℕ, zero, suc, _+_, _-_, _≤_, _<_}
+use Prim.Native.Nat.{ℕ, suc, _+_, _-_, _≤_, _<_}
 use native.Mathlib.Omega.{arith}
 use borrow.Author.Tests.{le-leb, lt-leb, ne-eqb}
 use lib.Dec.{T, leb}
 use lib.ListN.{length, getD, take, drop, length-reverse, drop-of-length-le}
 use lib.Seq.{take-suc, length-take-le}
 use Rattle.tree.specs.Tree.{Operator, union, difference, Tree, leaf, node, isGroup, sign, postfix, size}
-use Rattle.tree.specs.Pass.{Entry, classify, entryOf}
+use Rattle.tree.specs.Pass.{classify, entryOf}
 use Rattle.tree.specs.Scan.{entryKind, isOperator, onward, backward}
 use Rattle.tree.proofs.TreeLaws.{group-most}
 use Rattle.tree.proofs.PassLaws.{here, entry-sign, entry-leaf}

@@ -1,13 +1,13 @@
 -- Laws of trees, their lists and what they select.
 use mathlib.Core.Path.{_≡_, refl, sym, ap, ap₂, _∙_}
-use mathlib.Core.Bool.{Bool, true, false, not, cond, _&&_, _||_, true≢false, false≢true}
+use mathlib.Core.Bool.{Bool, true, false, not, _&&_, _||_, false≢true}
 use mathlib.Core.List.{List, [], _∷_, _++_}
-use Prim.Native.Nat.{ℕ, zero, suc, _+_, _≤_, _<_}
+use Prim.Native.Nat.{ℕ, _+_, _≤_, _<_}
 use native.Mathlib.Omega.{arith}
 use borrow.Author.Tests.{eq-eqb, eqb-true}
 use lib.Dec.{T, eqb, leb, leb→le}
 use lib.ListN.{length, length-append}
-use Rattle.tree.specs.Tree.{Operator, union, difference, sign, Tree, leaf, node, isGroup, mostGroup, postfix, size, apply, selects, Rig, Equivalent, Over, leaves, isIn, withNew, collect}
+use Rattle.tree.specs.Tree.{Operator, union, difference, sign, Tree, leaf, node, isGroup, mostGroup, postfix, size, apply, selects, Equivalent, Over, leaves, isIn}
 
 -- ---- both halves of a conjunction, and a test that holds
 pub and-left : (x y : Bool) → T (x && y) → T x

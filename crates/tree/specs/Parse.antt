@@ -5,7 +5,7 @@ use mathlib.Core.List.{List, [], _∷_}
 use Prim.Native.Nat.{ℕ, _+_, _-_}
 use lib.Dec.{leb, ltb}
 use lib.ListN.{length}
-use Rattle.tree.specs.Tree.{Operator, Tree, leaf, node, size, mostNodes}
+use Rattle.tree.specs.Tree.{Tree, leaf, node, size, mostNodes}
 use Rattle.tree.specs.Context.{left, right, Frame, frame, Place}
 use Rattle.tree.specs.Pass.{pass}
 

@@ -1,7 +1,6 @@
 -- `line_of`: the kind is the one byte before the first tab, or the whole line.
 use mathlib.Core.Path.{sym, _∙_}
 use native.Mathlib.Omega.{arith}
-use Rattle.text.specs.Parts.{ahead}
 use Rattle.text.specs.Line.{tab}
 use Rattle.text.proofs.PartsLaws.{rest-all, ahead-most}
 use Rattle.sheet.proofs.FormLaws.{line-none, line-bare, line-fields}

@@ -3,7 +3,7 @@ use mathlib.Core.Path.{_≡_, refl, sym, ap, _∙_}
 use Prim.Native.Nat.{_≤_, _-_}
 use native.Mathlib.Omega.{arith}
 use lib.ListN.{length}
-use Rattle.sheet.specs.Reading.{mostBytes, refused}
+use Rattle.sheet.specs.Reading.{mostBytes}
 use Rattle.sheet.specs.Form.{lineAt}
 use Rattle.sheet.specs.Holding.{Stepped}
 use Rattle.sheet.proofs.LineAtLaws.{line-at-range, OneLine, one-line}

@@ -1,8 +1,6 @@
 -- `tree::operator_kind` meets its contract.
-use borrow.Author.Needs.{needs}
 use borrow.Author.Tests.{eq-eqb, ne-eqb}
 use native.Mathlib.Omega.{arith}
-use Rattle.tree.specs.Scan.{operatorKind}
 use Rattle.tree.proofs.operator_kind.Statement.{statement}
 use Rattle.tree.proofs.operator_kind.Tie as tie
 

@@ -1,10 +1,10 @@
 -- `tree::scan_backward` meets its contract: the scan back from `i` with that many operands to pass comes to where that from `to` with 1 does.
-use mathlib.Core.Path.{_≡_, refl, sym, ap, _∙_}
-use mathlib.Core.List.{List, reverse}
-use Prim.Native.Nat.{ℕ, suc, _+_, _-_, _≤_, _<_}
+use mathlib.Core.Path.{_≡_, sym, _∙_}
+use mathlib.Core.List.{reverse}
+use Prim.Native.Nat.{_+_, _-_, _≤_, _<_}
 use native.Mathlib.Omega.{arith}
 use borrow.Author.Needs.{needs}
-use lib.ListN.{length, getD, take}
+use lib.ListN.{length, take}
 use Rattle.tree.specs.Scan.{backward}
 use Rattle.tree.proofs.ScanLaws.{backward-operator, backward-leaf, backward-stop, backward-none}
 use Rattle.tree.proofs.scan_backward.Statement.{statement}

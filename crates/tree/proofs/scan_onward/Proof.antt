@@ -1,9 +1,9 @@
 -- `tree::scan_onward` meets its contract: what is left to pass at `i` is what was left at `to`, less what was passed.
-use mathlib.Core.Path.{_≡_, refl, sym, ap, _∙_}
-use Prim.Native.Nat.{ℕ, _+_, _-_, _≤_, _<_}
+use mathlib.Core.Path.{_≡_}
+use Prim.Native.Nat.{_+_, _-_, _≤_}
 use native.Mathlib.Omega.{arith}
 use borrow.Author.Needs.{needs}
-use lib.ListN.{length, getD, drop}
+use lib.ListN.{length, drop}
 use Rattle.tree.specs.Scan.{onward}
 use Rattle.tree.proofs.ScanLaws.{onward-end, onward-stop, onward-operator, onward-leaf}
 use Rattle.tree.proofs.scan_onward.Statement.{statement}
