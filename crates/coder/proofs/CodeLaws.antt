@@ -8,12 +8,12 @@ use borrow.Author.Tests.{eq-eqb, ne-eqb}
 use lib.Dec.{T}
 use lib.ListN.{length, length-append}
 use Rattle.tree.specs.Tree.{Operator, union, difference, Tree, leaf, node, isGroup, size, Rig, apply, selects, selected, Over}
-use Rattle.player.specs.Instructions.{Lamps, Registers, Instruction, load, add, cut, run, numbersOf}
+use Rattle.player.specs.Instructions.{Lamps, Registers, Instruction, load, add, cut, loadKind, run, numbersOf}
 use Rattle.player.specs.Laws.{run-append, numbers-append, numbers-length}
-use Rattle.coder.specs.Need.{leftFirst, first, second, inOrder, mostWaiting}
+use Rattle.coder.specs.Need.{leftFirst, first, second, inOrder}
 use Rattle.coder.specs.Code.{operation, operationKind, combine, code}
 use Rattle.coder.specs.Effects.{Every, Within, Names, Loads}
-use Rattle.coder.proofs.NeedLaws.{in-order-node, in-order-by, waiting-node, waiting-need, need-positive}
+use Rattle.coder.proofs.NeedLaws.{in-order-node, in-order-by, mostWaiting, waiting-node, waiting-need, need-positive}
 
 -- ---- one induction
 pub code-leaf : (g : ℕ) (h : T (isGroup g)) (r : ℕ) → code (leaf g h) r ≡ load r g ∷ []
@@ -54,7 +54,7 @@ unfolding numbersOf
 operation-numbers union k a b = refl
 operation-numbers difference k a b = refl
 
-pub numbers-leaf : (g : ℕ) (h : T (isGroup g)) (k : ℕ) → numbersOf (code (leaf g h) k) ≡ 1 ∷ k ∷ g ∷ 0 ∷ []
+pub numbers-leaf : (g : ℕ) (h : T (isGroup g)) (k : ℕ) → numbersOf (code (leaf g h) k) ≡ loadKind ∷ k ∷ g ∷ 0 ∷ []
 unfolding numbersOf
 numbers-leaf g h k = ap numbersOf (code-leaf g h k)
 

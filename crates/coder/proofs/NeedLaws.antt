@@ -10,7 +10,7 @@ use lib.Dec.{T, eqb, leb}
 use lib.Pow.{pow-lt}
 use borrow.Author.Tests.{eqb-true, eqb-false, leb-true, leb-false}
 use Rattle.tree.specs.Tree.{Operator, Tree, leaf, node, isGroup, size, mostNodes}
-use Rattle.coder.specs.Need.{needOf, need, leftFirst, first, second, inOrder, mostWaiting}
+use Rattle.coder.specs.Need.{needOf, need, leftFirst, first, second, inOrder}
 
 -- ---- the order of nodes
 module _ {A : Type 0} (atLeaf : ℕ → ℕ → A) (atNode : ℕ → Operator → Bool → A → A → A) where
@@ -63,7 +63,11 @@ pub need-positive : (t : Tree) → 0 < need t
 need-positive (leaf g h) = unfold need in omega arith
 need-positive (node o l r) = omega (arith, need-node o l r)
 
--- need says how many operands wait at once
+-- how many operands wait at once at most, while the nodes of a tree come in this order and k wait already
+abbrev pub mostWaiting : ℕ → Tree → ℕ
+mostWaiting k t = inOrder (λ k g. k + 1) (λ k o f x y. max x y) k t
+
+-- need says how many
 pub waiting-need : (k : ℕ) (t : Tree) → mostWaiting k t ≡ k + need t
 waiting-need =
     in-order-by (λ k g. k + 1) (λ k o f x y. max x y) (λ k t x. x ≡ k + need t)

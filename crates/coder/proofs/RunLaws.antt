@@ -80,45 +80,44 @@ low-written low high q W (load t g ∷ is) h e = low-written low high q (λ q. e
 low-written low high q W (add t a b ∷ is) h e = low-written low high q (λ q. eqb q t || W q) is h (e .1) ∙ rw (ne-eqb q t (λ z. omega (arith, e .0 .0 .from)))
 low-written low high q W (cut t a b ∷ is) h e = low-written low high q (λ q. eqb q t || W q) is h (e .1) ∙ rw (ne-eqb q t (λ z. omega (arith, e .0 .0 .from)))
 
--- ---- a tree's code reads no register from its target on as it was before
--- behind is what comes after it
-pub record Fresh (k : ℕ) (is : List Instruction) : Type 0 where
+-- ---- a tree's code reads no register from its target on before it writes it; `behind` is what comes after the code
+pub record WritesFirst (k : ℕ) (is : List Instruction) : Type 0 where
   pub target : (behind : List Instruction) → readFirst k (is ++ behind) ≡ false
   pub above : (q : ℕ) (behind : List Instruction) → k < q → readFirst q behind ≡ false → readFirst q (is ++ behind) ≡ false
 
-combine-quiet : (k : ℕ) (o : Operator) (f : Bool) (q : ℕ) (behind : List Instruction) → k + 1 < q → readFirst q behind ≡ false → readFirst q (combine k o f ∷ behind) ≡ false
+combine-unread : (k : ℕ) (o : Operator) (f : Bool) (q : ℕ) (behind : List Instruction) → k + 1 < q → readFirst q behind ≡ false → readFirst q (combine k o f ∷ behind) ≡ false
 unfolding readFirst
-combine-quiet k o f q behind h s = rw (operation-reads o k, operation-writes o k, ne-eqb q k (λ e. omega arith)) (go f)
+combine-unread k o f q behind h s = rw (operation-reads o k, operation-writes o k, ne-eqb q k (λ e. omega arith)) (go f)
   where
     go : (f : Bool) → ((eqb q (cond f k (k + 1)) || eqb q (cond f (k + 1) k)) || readFirst q behind) ≡ false
     go true = rw (ne-eqb q k (λ e. omega arith), ne-eqb q (k + 1) (λ e. omega arith)) s
     go false = rw (ne-eqb q k (λ e. omega arith), ne-eqb q (k + 1) (λ e. omega arith)) s
 
 -- so it is with the second child's code and the operator's instruction behind it
-second-quiet : (k : ℕ) (o : Operator) (f : Bool) (y : List Instruction) → Fresh (k + 1) y → (q : ℕ) (behind : List Instruction) → k < q → readFirst q behind ≡ false
+second-unread : (k : ℕ) (o : Operator) (f : Bool) (y : List Instruction) → WritesFirst (k + 1) y → (q : ℕ) (behind : List Instruction) → k < q → readFirst q behind ≡ false
     → readFirst q (y ++ (combine k o f ∷ behind)) ≡ false
-second-quiet k o f y p q behind h s = go (eqb q (k + 1)) refl
+second-unread k o f y p q behind h s = go (eqb q (k + 1)) refl
   where
     go : (x : Bool) → eqb q (k + 1) ≡ x → readFirst q (y ++ (combine k o f ∷ behind)) ≡ false
     go true e = rw (eqb-true q (k + 1) e) (p .target (combine k o f ∷ behind))
     go false e =
         let n : k + 1 < q = omega (arith, eqb-false q (k + 1) e) in
-        p .above q (combine k o f ∷ behind) n (combine-quiet k o f q behind n s)
+        p .above q (combine k o f ∷ behind) n (combine-unread k o f q behind n s)
 
-fresh-node : (k : ℕ) (o : Operator) (f : Bool) (x y : List Instruction) → Fresh k x → Fresh (k + 1) y → Fresh k (x ++ (y ++ (combine k o f ∷ [])))
-fresh-node k o f x y p q = record {
+writes-first-node : (k : ℕ) (o : Operator) (f : Bool) (x y : List Instruction) → WritesFirst k x → WritesFirst (k + 1) y → WritesFirst k (x ++ (y ++ (combine k o f ∷ [])))
+writes-first-node k o f x y p q = record {
   target = λ behind. rw (regroup behind) (p .target _);
-  above = λ n behind h s. rw (regroup behind) (p .above n _ h (second-quiet k o f y q n behind h s));
+  above = λ n behind h s. rw (regroup behind) (p .above n _ h (second-unread k o f y q n behind h s));
 }
   where
     regroup : (behind : List Instruction) → (x ++ (y ++ (combine k o f ∷ []))) ++ behind ≡ x ++ (y ++ (combine k o f ∷ behind))
     regroup behind = simp append-assoc
 
-pub fresh-code : (t : Tree) (k : ℕ) → Fresh k (code t k)
-fresh-code =
-    code-by (λ k t is. Fresh k is)
+pub writes-first : (t : Tree) (k : ℕ) → WritesFirst k (code t k)
+writes-first =
+    code-by (λ k t is. WritesFirst k is)
     (λ k g h. unfold readFirst in record { target = λ behind. rw (eq-eqb k k refl); above = λ q behind lt s. rw (ne-eqb q k (λ e. omega arith)) s })
-    (λ k o l r x y p q. fresh-node k o (leftFirst l r) x y p q)
+    (λ k o l r x y p q. writes-first-node k o (leftFirst l r) x y p q)
 
 -- ---- the place of a child's code
 -- either the child comes first or the other one does
@@ -152,18 +151,18 @@ code-stands h (frame s o b ∷ c) r =
     (λ f e. u ∙ rw (e (Q .target)) (simp append-assoc))
 
 -- behind a part's code, no register above its target is read until written anew
-abbrev Quiet : CodePlace → Type 0
-Quiet P = (q : ℕ) → P .target < q → readFirst q (P .behind) ≡ false
+abbrev Unread : CodePlace → Type 0
+Unread P = (q : ℕ) → P .target < q → readFirst q (P .behind) ≡ false
 
-pub behind-quiet : (h : Tree) (c : List Frame) (r : ℕ) → Quiet (codePlace h c r)
+pub behind-unread : (h : Tree) (c : List Frame) (r : ℕ) → Unread (codePlace h c r)
 unfolding codePlace
-behind-quiet h [] r = λ q lt. unfold readFirst in refl
-behind-quiet h (frame s o b ∷ c) r =
+behind-unread h [] r = λ q lt. unfold readFirst in refl
+behind-unread h (frame s o b ∷ c) r =
     let Q : CodePlace = codePlace (sided s (node o) h b) c r in
-    let u : Quiet Q = behind-quiet (sided s (node o) h b) c r in
-    child-by Quiet s o h b Q
-    (λ f e q lt. second-quiet (Q .target) o f (code b (Q .target + 1)) (fresh-code b (Q .target + 1)) q (Q .behind) lt (u q lt))
-    (λ f e q lt. combine-quiet (Q .target) o f q (Q .behind) lt (u q (omega arith)))
+    let u : Unread Q = behind-unread (sided s (node o) h b) c r in
+    child-by Unread s o h b Q
+    (λ f e q lt. second-unread (Q .target) o f (code b (Q .target + 1)) (writes-first b (Q .target + 1)) q (Q .behind) lt (u q lt))
+    (λ f e q lt. combine-unread (Q .target) o f q (Q .behind) lt (u q (omega arith)))
 
 -- outside a part's code, only groups of leaves outside the part are loaded
 pub record LoadsAround (m : ℕ → Bool) (P : CodePlace) : Type 0 where

@@ -27,7 +27,7 @@ use Rattle.coder.specs.Code.{code, codeNumbers, codePlace, ownCode, runF
 use Rattle.coder.specs.Effects.{Every, Names, Loads, writtenAfter, readFirst, noneWritten, ahead, stretch, behind, ClosedRun, LoadsApart}
 use Rattle.coder.proofs.NeedLaws.{need-most, waiting-need}
 use Rattle.coder.proofs.CodeLaws.{length-code, leaves, every-implies, wider, names-waiting, loads}
-use Rattle.coder.proofs.RunLaws.{closed-code, low-written, code-stands, behind-quiet, loads-around}
+use Rattle.coder.proofs.RunLaws.{closed-code, low-written, code-stands, behind-unread, loads-around}
 
 -- ---- 1. Running the code of a tree, by the player's own definition, from any registers leaves in the target exactly what
 -- the tree selects in the rig, and every register below the target as it was.
@@ -92,7 +92,7 @@ module _ (h : Tree) (c : List Frame) where
   others q w n = go (leb (codePlace h c 0 .target) q) refl
     where
       go : (x : Bool) → leb (codePlace h c 0 .target) q ≡ x → readFirst q (codePlace h c 0 .behind) ≡ false
-      go true e = behind-quiet h c 0 q (omega (arith, leb-true (codePlace h c 0 .target) q e))
+      go true e = behind-unread h c 0 q (omega (arith, leb-true (codePlace h c 0 .target) q e))
       go false e = absurd (false≢true (sym (low-written (codePlace h c 0 .target) _ q noneWritten (ownCode h c) (leb-false (codePlace h c 0 .target) q e) (code-names h (codePlace h c 0 .target))) ∙ w))
 
   pub closed-run : ClosedRun (code (plug h c) 0) (runFirst h c) (runCount h c) (codePlace h c 0 .target)

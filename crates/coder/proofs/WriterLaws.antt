@@ -11,7 +11,7 @@ use Rattle.tree.proofs.TreeLaws.{size-positive, group-most}
 use Rattle.tree.proofs.PartLaws.{part-leaf, part-node}
 use Rattle.tree.proofs.WritingLaws.{wrote-then, wrote-as}
 use Rattle.player.specs.Limits.{registerCount}
-use Rattle.player.specs.Instructions.{numbersOf}
+use Rattle.player.specs.Instructions.{loadKind, addKind, cutKind, numbersOf}
 use Rattle.coder.specs.Need.{need, leftFirst, first, second}
 use Rattle.coder.specs.Code.{operationKind, code}
 use Rattle.coder.specs.Notes.{NodeAt, middle, leftIsFirst, Inner, Ordered, Writable}
@@ -26,11 +26,11 @@ wrote-four out at a b c d =
     let three : at + 3 ≡ suc (suc (suc at)) = omega arith in
     record { list = rw (one, two, three); ends = refl; same = simp length-set }
 
-pub kind-union : (x : ℕ) → x ≡ sign union → (o : Operator) → x ≡ sign o → 2 ≡ operationKind o
+pub kind-union : (x : ℕ) → x ≡ sign union → (o : Operator) → x ≡ sign o → addKind ≡ operationKind o
 kind-union x e union h = refl
 kind-union x e difference h = absurd (omega arith)
 
-pub kind-difference : (x : ℕ) → (x ≡ sign union → ⊥) → (o : Operator) → x ≡ sign o → 3 ≡ operationKind o
+pub kind-difference : (x : ℕ) → (x ≡ sign union → ⊥) → (o : Operator) → x ≡ sign o → cutKind ≡ operationKind o
 kind-difference x n union h = absurd (n h)
 kind-difference x n difference h = refl
 
@@ -39,7 +39,7 @@ abbrev pub Writes : List ℕ → ℕ → ℕ → List ℕ → ℕ → List ℕ �
 Writes l e k out at out′ next = (a : Tree) → NodeAt l e a → Wrote out at out′ next (numbersOf (code a k))
 
 module _ (l : List ℕ) (e k : ℕ) where
-  pub writes-leaf : {out out′ : List ℕ} {at next : ℕ} → getD l e 0 < sign union → Wrote out at out′ next (1 ∷ k ∷ getD l e 0 ∷ 0 ∷ []) → Writes l e k out at out′ next
+  pub writes-leaf : {out out′ : List ℕ} {at next : ℕ} → getD l e 0 < sign union → Wrote out at out′ next (loadKind ∷ k ∷ getD l e 0 ∷ 0 ∷ []) → Writes l e k out at out′ next
   writes-leaf lt w a v = let z = as-leaf a v lt in wrote-as w (sym (ap (λ (t : Tree). numbersOf (code t k)) (z .1) ∙ numbers-leaf _ (z .0) k))
 
 -- ---- a node's children, in the order of their code

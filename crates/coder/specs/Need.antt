@@ -34,7 +34,3 @@ module _ {A : Type 0} (atLeaf : ℕ → ℕ → A) (atNode : ℕ → Operator �
       cond (leftFirst l r)
       (atNode k o true (inOrder k l) (inOrder (k + 1) r))
       (atNode k o false (inOrder k r) (inOrder (k + 1) l))
-
--- how many operands wait at once at most, while the nodes of a tree come in this order and k wait already
-abbrev pub mostWaiting : ℕ → Tree → ℕ
-mostWaiting k t = inOrder (λ k g. k + 1) (λ k o f x y. max x y) k t

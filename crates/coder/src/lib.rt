@@ -21,6 +21,11 @@ ghost use Rattle.coder.specs.Notes.{NodeAt, Noted, Inner, Ordered, Stepp
 // Four numbers for each of 8,191 instructions.
 pub const LEAST_BUFFER: usize = 32764;
 
+// 01's numbers of refusal.
+pub const SHORT_BUFFER: u16 = 20;
+
+pub const NOT_A_TREE: u16 = 12;
+
 // 01's kinds of instruction.
 const LOAD: u16 = 1;
 
@@ -166,7 +171,7 @@ pub fn encode(tree: &[u16], out: &mut [u16]) -> Coded
     ensures { λ r. ⌜ Encodes (now (tree .entry)) (now (out .entry)) r (now (out .exit)) ⌝ }
 {
     if out.len() < LEAST_BUFFER {
-        return Coded::Refused(20);
+        return Coded::Refused(SHORT_BUFFER);
     }
     if tree::is_tree(tree) {
         let mut starts = [0u16; tree::MOST_NODES];
@@ -175,7 +180,7 @@ pub fn encode(tree: &[u16], out: &mut [u16]) -> Coded
         write_node(tree, &starts, &needs, tree.len() - 1, 0, out, 0);
         return Coded::Done(tree.len());
     }
-    Coded::Refused(12)
+    Coded::Refused(NOT_A_TREE)
 }
 
 // From the node at `end` to its child that has the node at `position` in its part.

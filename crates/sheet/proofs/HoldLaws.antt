@@ -12,7 +12,7 @@ use Rattle.tree.specs.Pass.{pass}
 use Rattle.tree.specs.Writing.{Wrote}
 use Rattle.tree.proofs.GroupLaws.{distinct-most}
 use Rattle.tree.proofs.WritingLaws.{wrote-nothing, wrote-one, wrote-then, wrote-as, wrote-over}
-use Rattle.sheet.specs.Reading.{mostGroups, State, trees, first, orderFault, kindFault, faultOf, entered, next, blank, accepted}
+use Rattle.sheet.specs.Reading.{mostGroups, State, ended, trees, first, orderFault, kindFault, faultOf, entered, next, blank, accepted}
 use Rattle.sheet.specs.Holding.{InRange, Sound, Holds, Stepped, Gives}
 use Rattle.sheet.specs.declared.Line.{Line}
 use Rattle.sheet.specs.declared.Line.the-variants.{Group, Operator, Lift, Mark, End, Bad}
@@ -203,7 +203,7 @@ module _ {most : ℕ} {st : State} {p : Progress} {tree groups marks : List ℕ}
 
   pub stepped-end : (after : ℕ) → faultOf most st End ≡ 0
       → Stepped most st End after p
-      (record { fault = p .fault; line = p .line + 1; phase = 4; nodes = p .nodes; waiting = p .waiting; different = p .different; marked = p .marked; start = p .start; lifts = p .lifts })
+      (record { fault = p .fault; line = p .line + 1; phase = ended; nodes = p .nodes; waiting = p .waiting; different = p .different; marked = p .marked; start = p .start; lifts = p .lifts })
       tree groups marks
   unfolding faultOf
   stepped-end after e =

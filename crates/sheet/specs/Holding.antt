@@ -52,6 +52,7 @@ pub record Holds (most : ℕ) (st : State) (p : Progress) (tree groups marks : L
   pub lifts : p .lifts ≡ length (st .lifts)
   pub few : p .lifts ≤ p .line
 
+-- they are those of some state
 abbrev pub Holding : ℕ → Progress → List ℕ → List ℕ → List ℕ → Type 0
 Holding most p tree groups marks = (st : State) × Holds most st p tree groups marks
 

@@ -54,11 +54,12 @@ place End = 3
 abbrev pub ended : ℕ
 ended = 4
 
--- the trees that wait after these entries
+-- no trees where the pass over the entries fails
 abbrev pub orNone : Option (List Tree) → List Tree
 orNone none = []
 orNone (some ts) = ts
 
+-- the trees that wait after these entries
 unfoldable pub trees : List ℕ → List Tree
 trees entries = orNone (waiting 0 entries [])
 
@@ -95,17 +96,18 @@ kindFault most st Bad = 0
 unfoldable pub faultOf : ℕ → State → Line → ℕ
 faultOf most st l = first (formFault l) (first (orderFault (st .phase) (length (trees (st .entries))) (place l)) (kindFault most st l))
 
--- what a line without fault adds; `after` is the byte after it
+-- one entry more of the tree; `after` is the byte after its line
 abbrev pub entered : State → ℕ → List ℕ → ℕ → State
 entered st x groups after =
     record { phase = st .phase; entries = st .entries ++ (x ∷ []); groups = groups; marks = st .marks; start = after; lifts = st .lifts }
 
+-- what a line without fault adds; `after` is the byte after it
 abbrev pub next : State → Line → ℕ → State
 next st (Group g) after = entered st g (withNew (st .groups) g) after
 next st (Operator x) after = entered st x (st .groups) after
 next st (Lift p n) after =
     record {
-      phase = 1;
+      phase = place (Lift p n);
       entries = st .entries;
       groups = st .groups;
       marks = st .marks;
@@ -114,7 +116,7 @@ next st (Lift p n) after =
     }
 next st (Mark g) after =
     record {
-      phase = 2;
+      phase = place (Mark g);
       entries = st .entries;
       groups = st .groups;
       marks = st .marks ++ (g ∷ []);
@@ -136,6 +138,7 @@ next st Bad after = st
 abbrev pub blank : State
 blank = record { phase = 0; entries = []; groups = []; marks = []; start = 0; lifts = [] }
 
+-- what reading comes to: what has been read, or the number and the line of the first fault
 pub data Outcome : Type 0 where
   accepted : State → Outcome
   refused : ℕ → ℕ → Outcome

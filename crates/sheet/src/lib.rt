@@ -13,6 +13,7 @@ ghost use Rattle.sheet.specs.Form.{bare, oneNumber, twoNumbers, formOf, 
 ghost use Rattle.sheet.specs.Reading.{mostBytes, mostGroups, State, orderFault, faultOf, next, reading, readWithin, refused, answer};
 ghost use Rattle.sheet.specs.Holding.{InRange, Holds, Holding, Stepped, Gives};
 
+// 01's limits.
 pub const MOST_BYTES: usize = 60000;
 
 pub const MOST_SHEET_NODES: usize = 1023;
@@ -24,6 +25,27 @@ pub const MOST_POSITION: u16 = 8190;
 pub const LEAST_LEVELS: u16 = 1;
 
 pub const MOST_LEVELS: u16 = 99;
+
+// 01's numbers of refusal.
+pub const TOO_MANY_BYTES: u8 = 1;
+
+pub const NO_FORM: u8 = 2;
+
+pub const OUT_OF_PLACE: u8 = 3;
+
+pub const TOO_FEW_TREES: u8 = 4;
+
+pub const TOO_MANY_NODES: u8 = 5;
+
+pub const TOO_MANY_GROUPS: u8 = 6;
+
+pub const NOT_ONE_TREE: u8 = 7;
+
+pub const UNKNOWN_MARK: u8 = 8;
+
+pub const MARK_TWICE: u8 = 9;
+
+pub const NO_END: u8 = 10;
 
 // A line by its form: a group, an operator as a tree's list has it, a lift's position and levels, a mark, the end, or none.
 pub enum Line {
@@ -161,7 +183,8 @@ fn is_in(list: &[u16], x: u16) -> bool
 }
 
 // How far reading has come. The arrays beside it hold the tree's entries (`nodes`), its different groups (`different`) and
-// the marks (`marked`). `phase` is the place of the last line, `waiting` the number of trees that wait.
+// the marks (`marked`). `fault` is 0 where there is none; `phase` is the place of the last line, `waiting` the number of
+// trees that wait, `start` the byte after the tree lines.
 pub struct Progress {
     pub fault: u8,
     pub line: usize,
@@ -201,11 +224,11 @@ fn order_fault(phase: u8, waiting: usize, place: u8) -> u8
     ensures { λ r. ⌜ r ≡ orderFault phase waiting place ⌝ }
 {
     if place < phase {
-        return 3;
+        return OUT_OF_PLACE;
     }
-    let none = (phase == 0) & (0 < place) & (waiting != 1);
-    if none {
-        return 7;
+    let no_tree = (phase == TREE) & (TREE < place) & (waiting != 1);
+    if no_tree {
+        return NOT_ONE_TREE;
     }
     0
 }
@@ -222,7 +245,7 @@ fn group_step(p: Progress, g: u16, after: usize, tree: &mut [u16], groups: &mut 
     }
     let at = p.nodes;
     if tree.len() <= at {
-        return faulty(p, 5);
+        return faulty(p, TOO_MANY_NODES);
     }
     let n = p.different;
     let mut q = p;
@@ -235,7 +258,7 @@ fn group_step(p: Progress, g: u16, after: usize, tree: &mut [u16], groups: &mut 
         return q;
     }
     if MOST_GROUPS <= n {
-        return faulty(p, 6);
+        return faulty(p, TOO_MANY_GROUPS);
     }
     tree[at] = g;
     groups[n] = g;
@@ -254,11 +277,11 @@ fn operator_step(p: Progress, x: u16, after: usize, tree: &mut [u16]) -> Progres
         return faulty(p, fault);
     }
     if p.waiting < 2 {
-        return faulty(p, 4);
+        return faulty(p, TOO_FEW_TREES);
     }
     let at = p.nodes;
     if tree.len() <= at {
-        return faulty(p, 5);
+        return faulty(p, TOO_MANY_NODES);
     }
     let mut q = p;
     q.line = p.line + 1;
@@ -300,7 +323,7 @@ fn mark_step(p: Progress, g: u16, groups: &[u16], marks: &mut [u16]) -> Progress
     if is_in(&groups[..n], g) {
         let m = p.marked;
         if is_in(&marks[..m], g) {
-            return faulty(p, 9);
+            return faulty(p, MARK_TWICE);
         }
         let mut q = p;
         q.line = p.line + 1;
@@ -309,7 +332,7 @@ fn mark_step(p: Progress, g: u16, groups: &[u16], marks: &mut [u16]) -> Progress
         marks[m] = g;
         return q;
     }
-    faulty(p, 8)
+    faulty(p, UNKNOWN_MARK)
 }
 
 // Reads the end.
@@ -342,7 +365,7 @@ fn step(
         → Stepped (length (now (tree .entry))) st line after p r (now (tree .exit)) (now (groups .exit)) (now (marks .exit))) ⌝ }
 {
     match line {
-        Line::Bad => faulty(p, 2),
+        Line::Bad => faulty(p, NO_FORM),
         Line::Group(g) => group_step(p, g, after, tree, groups),
         Line::Operator(x) => operator_step(p, x, after, tree),
         Line::Lift(_, _) => lift_step(p),
@@ -368,7 +391,7 @@ fn read_lines(sheet: &[u8], tree: &mut [u16], marks: &mut [u16]) -> Progress
         lifts: 0,
     };
     if MOST_BYTES < sheet.len() {
-        p.fault = 1;
+        p.fault = TOO_MANY_BYTES;
         return p;
     }
     let mut groups: [u16; MOST_GROUPS] = [0; MOST_GROUPS];
@@ -385,7 +408,7 @@ fn read_lines(sheet: &[u8], tree: &mut [u16], marks: &mut [u16]) -> Progress
     if p.phase == ENDED {
         return p;
     }
-    faulty(p, 10)
+    faulty(p, NO_END)
 }
 
 // What reading answers: the number and the line of the first fault, both 0 where the sheet is accepted; the tree's entries,

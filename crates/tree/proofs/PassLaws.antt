@@ -92,7 +92,7 @@ module _ {A : Type 0} (atLeaf : ℕ → (g : ℕ) → T (isGroup g) → A) (atNo
     unfolding stacked
     passing-start t a = refl
 
-    -- below the operators an entry of a tree's list is a group
+    -- one entry on, where that entry is e
     step-on : (t : Tree) (i : ℕ) (s : List A) (e : Entry) → i < length (postfix t) → entryOf (getD (postfix t) i 0) ≡ e
         → pass atLeaf atNode i (drop i (postfix t)) s ≡ andThen atLeaf atNode (pushed atLeaf atNode i e s) (λ s. pass atLeaf atNode (i + 1) (drop (i + 1) (postfix t)) s)
     unfolding pass

@@ -1,4 +1,4 @@
--- The scans of `parent` and `part_start`: one turn of each loop, and what they pass in a tree's list.
+-- The scans `scan_onward` and `scan_backward`: one turn of each loop, and what they pass in a tree's list.
 use mathlib.Core.Path.{_≡_, refl, sym, ap, subst, _∙_}
 use mathlib.Core.Bool.{Bool, true, false, cond, true≢false}
 use mathlib.Core.List.{List, [], _∷_, _++_, append-assoc, reverse, reverse-append}

@@ -1,4 +1,4 @@
--- What the scans of the code compute on a postfix list. The laws in proofs/Scans.antt say what that is in a tree.
+-- What the scans of the code compute on a postfix list. The laws in proofs/ScanLaws.antt say what that is in a tree.
 use mathlib.Core.Bool.{Bool, cond}
 use mathlib.Core.List.{List, [], _∷_}
 use Prim.Native.Nat.{ℕ, _+_, _-_}
