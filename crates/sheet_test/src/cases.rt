@@ -51,14 +51,20 @@ pub fn example() {
     show_list(b"its marks", &marks, 8);
 }
 
-pub fn order() {
+pub fn ends() {
     show(b"empty", b"");
     show(b"end alone", b"E\n");
     show(b"no end", b"G\t1\n");
     show(b"last line without LF", b"G\t1\nE");
+}
+
+pub fn past_the_end() {
     show(b"line without LF after the end", b"G\t1\nE\nE");
     show(b"good line after the end", b"G\t1\nE\nE\n");
     show(b"bad line after the end", b"G\t1\nE\nX\n");
+}
+
+pub fn order() {
     show(b"group after a lift", b"G\t1\nL\t0\t1\nG\t2\n");
     show(b"lift after a mark", b"G\t1\nK\t1\nL\t0\t1\n");
     show(b"lift first", b"L\t0\t1\n");
@@ -92,11 +98,17 @@ pub fn groups() {
     show(b"group 10000", b"G\t10000\nE\n");
     show(b"group 65537", b"G\t65537\nE\n");
     show(b"group of 20 digits", b"G\t18446744073709551617\nE\n");
+}
+
+pub fn fields() {
     show(b"group with a space", b"G\t 1\nE\n");
     show(b"group with a CR", b"G\t1\r\nE\n");
     show(b"group with no field", b"G\nE\n");
     show(b"group with an empty field", b"G\t\nE\n");
     show(b"group with two fields", b"G\t1\t2\nE\n");
+}
+
+pub fn group_limits() {
     show(b"group 9999", b"G\t9999\nE\n");
     show(b"mark 0", b"G\t1\nK\t0\nE\n");
 }
@@ -107,6 +119,9 @@ pub fn lifts() {
     show(b"levels 100", b"G\t1\nL\t0\t100\nE\n");
     show(b"levels 99", b"G\t1\nL\t0\t99\nE\n");
     show(b"levels 0", b"G\t1\nL\t0\t0\nE\n");
+}
+
+pub fn lift_fields() {
     show(b"lift with one field", b"G\t1\nL\t0\nE\n");
     show(b"lift with three fields", b"G\t1\nL\t0\t1\t1\nE\n");
     show(b"lift with a last tab", b"G\t1\nL\t0\t1\t\nE\n");
@@ -162,9 +177,8 @@ fn show_nodes(name: &[u8], first: &[u8], groups: usize, operators: usize, last: 
     show(name, &buffer[..n]);
 }
 
-// The limits of nodes and groups.
+// The limit of nodes.
 pub fn nodes() {
-    let eight = b"G\t1\nG\t2\nG\t3\nG\t4\nG\t5\nG\t6\nG\t7\nG\t8\n";
     show_nodes(b"1023 nodes", b"", 512, 511, b"");
     show_nodes(b"1024th node a group", b"", 512, 511, b"G\t1\n");
     show_nodes(b"1024th node an operator", b"", 513, 510, b"U\n");
@@ -175,6 +189,11 @@ pub fn nodes() {
         511,
         b"U\n",
     );
+}
+
+// The limit of groups.
+pub fn different_groups() {
+    let eight = b"G\t1\nG\t2\nG\t3\nG\t4\nG\t5\nG\t6\nG\t7\nG\t8\n";
     show_nodes(b"1024th node a ninth group", eight, 504, 511, b"G\t9\n");
     show_nodes(b"ninth group", eight, 0, 0, b"G\t9\n");
     show_nodes(b"eight groups", eight, 0, 7, b"");
