@@ -6,14 +6,14 @@ use Prim.Native.Nat.{ℕ, suc, _+_, _-_, _≤_, _<_}
 use native.Mathlib.Omega.{arith}
 use borrow.Author.Tests.{ltb-false, ltb-true, lt-ltb, le-ltb}
 use lib.Dec.{ltb}
-use lib.ListN.{length, take, drop}
-use lib.Seq.{take-at, length-take-le}
+use lib.ListN.{length, take}
+use lib.Seq.{length-take-le}
 use Rattle.tree.specs.Tree.{Tree, size, postfix, mostNodes}
 use Rattle.tree.specs.Context.{Frame, frame, plug, before, position}
 use Rattle.tree.specs.Writing.{over, Wrote}
 use Rattle.tree.proofs.TreeLaws.{postfix-length}
 use Rattle.tree.proofs.PartLaws.{part-length}
-use Rattle.tree.proofs.WritingLaws.{wrote-over}
+use Rattle.tree.proofs.WritingLaws.{wrote-over, take-over}
 use Rattle.lift.specs.Moves.{State, Input, stateOf, inputOf, nextState}
 use Rattle.lift.specs.Step.{Outcome, stuck, moved, step}
 use Rattle.lift.specs.Standing.{stateNumber, inputNumber, StateIs, inputAbove, Standing}
@@ -106,9 +106,6 @@ done-is a j (moved e n) len f m i h = go (ltb mostNodes (length (postfix (plug a
     go true k q = absurd (let z : _≡_ {A = ℕ} 0 1 = cc in omega arith)
     go false k q = record { e = e; is = cc; length-is = cc (postfix-length (plug a e)); begins = cc; short = omega (arith, ltb-false mostNodes (length (postfix (plug a e))) k, postfix-length (plug a e)); input-is = cc }
 
-pub take-over : (xs out : List ℕ) → take (length xs) (over xs out) ≡ xs
-take-over xs out = take-at xs (drop (length xs) out) (length xs) refl
-
 -- ---- one turn
 steps-one : (k : ℕ) (a : Tree) (c : List Frame) (looks : ℕ) → (k ≡ 0 → ⊥) → steps k a c looks ≡ goesOn (step c) a looks (λ e m. steps (k - 1) a e m)
 steps-one k a c looks h =
@@ -128,8 +125,7 @@ module _ {l : List ℕ} {n : Node} {a : Tree} {c : List Frame} (S : Standing l n
 
   new-list : take len out′ ≡ postfix (plug a (done .e))
   new-list =
-      ap (take len) written ∙ ap (λ (k : ℕ). take k (over (postfix (plug a (done .e))) out)) (done .length-is ∙ sym (postfix-length (plug a (done .e))))
-      ∙ take-over (postfix (plug a (done .e))) out
+      ap (take len) written ∙ take-over (postfix (plug a (done .e))) out len (done .length-is ∙ sym (postfix-length (plug a (done .e))))
 
   pub next-stands : (s′ : ℕ) → ((x : State) (j : Input) → n .state ≡ stateNumber x → i ≡ inputNumber j → s′ ≡ stateNumber (nextState x j))
       → Standing (take len out′) (record { from = f; to = f + (n .to - n .from); level = n .level - 1; state = s′ }) a (done .e)

@@ -1,5 +1,5 @@
 -- The whole call, test by test.
-use mathlib.Core.Path.{_≡_, sym, ap, _∙_}
+use mathlib.Core.Path.{_≡_, refl, sym, ap, _∙_}
 use mathlib.Core.Bool.{Bool, true, false, cond, _||_, true≢false}
 use mathlib.Core.Option.{Option}
 use mathlib.Core.List.{List, []}
@@ -15,12 +15,11 @@ use Rattle.tree.specs.Part.{Part}
 use Rattle.tree.specs.Writing.{Wrote}
 use Rattle.tree.proofs.ParseLaws.{IsTree, tree-length, no-tree-of}
 use Rattle.tree.proofs.PartLaws.{part-length, part-of-entry}
-use Rattle.tree.proofs.WritingLaws.{wrote-over}
+use Rattle.tree.proofs.WritingLaws.{wrote-over, take-over}
 use Rattle.lift.specs.Standing.{StateIs, Standing}
 use Rattle.lift.specs.Lift.{refused, steps, liftAt, liftIn, liftOf, shortBuffer, notATree, noPosition, badLevels}
 use Rattle.lift.proofs.LevelLaws.{part-level}
 use Rattle.lift.proofs.StepAnswerLaws.{after-long}
-use Rattle.lift.proofs.RunLaws.{take-over}
 
 module _ (room : ℕ) (l : List ℕ) (p k : ℕ) where
   pub says-11 : room < mostNodes → liftOf room l p k ≡ refused shortBuffer
@@ -73,7 +72,7 @@ levels-below k level t = leb-false level k (go (eqb k 0) (leb level k) t)
 pub stands-first : {l x : List ℕ} {zeros : List ℕ} {r from to level state : ℕ} {a : Tree} {c : List Frame} → Wrote zeros 0 x r l → length l ≤ length zeros → Part l from to a c → level ≡ length c → StateIs c state
     → Standing (take (length l) x) (record { from = from; to = to; level = level; state = state }) a c
 stands-first {l} {x} {zeros} W h P e s = record {
-  part = rw (ap (take (length l)) (wrote-over W h) ∙ take-over l zeros) P;
+  part = rw (ap (take (length l)) (wrote-over W h) ∙ take-over l zeros (length l) refl) P;
   level = e;
   state = s;
 }

@@ -70,7 +70,7 @@ fn pair(label: &[u8], group: u16, lamp: u16) {
     case(label, &[1, 0, 7, 0], &[7, 1, group, lamp]);
 }
 
-// Faults 21 and 22. The numbers 2 2 2 2 are ADD 2 2 2.
+// Faults 21 and 22.
 fn lengths() {
     show(b"63 bytes", &[1, 0, 7, 0], &[7, 1], &mut [BEFORE; 63]);
     show(b"64 bytes", &[1, 0, 7, 0], &[7, 1], &mut [BEFORE; 64]);
@@ -80,18 +80,25 @@ fn lengths() {
         &[1, 0, 7, 0, 1],
         &[7, 1],
     );
+}
+
+// The most instructions. The numbers 2 2 2 2 are ADD 2 2 2.
+fn most_instructions() {
     case(b"8191 instructions", &[2; 32764], &[7, 1]);
     case(b"8192 instructions", &[2; 32768], &[7, 1]);
 }
 
 // Fault 23.
-fn instructions() {
+fn registers() {
     instruction(b"kind 0", 0, 0, 1, 2);
     instruction(b"kind 4", 4, 0, 1, 2);
     instruction(b"target 13", 1, 13, 7, 0);
     instruction(b"first operand 13", 2, 0, 13, 0);
     instruction(b"second operand 13", 3, 0, 0, 13);
     instruction(b"registers 12", 3, 12, 12, 12);
+}
+
+fn loads() {
     instruction(b"group 0", 1, 0, 0, 0);
     instruction(b"group 9999", 1, 0, 9999, 0);
     instruction(b"group 10000", 1, 0, 10000, 0);
@@ -103,11 +110,15 @@ fn instructions() {
     );
 }
 
-// Faults 24 and 25.
+// Fault 24.
 fn patches() {
     case(b"a patch of odd length", &[1, 0, 7, 0], &[7, 1, 7]);
     case(b"4096 pairs", &[1, 0, 1, 0], &[1; 8192]);
     case(b"4097 pairs", &[1, 0, 1, 0], &[1; 8194]);
+}
+
+// Fault 25.
+fn pairs() {
     pair(b"a pair of group 0", 0, 1);
     pair(b"a pair of group 9999", 9999, 1);
     pair(b"a pair of group 10000", 10000, 1);
@@ -121,6 +132,9 @@ fn faults() {
     show(b"21 and 22", &[], &[7, 1], &mut [BEFORE; 63]);
     case(b"22 and 23", &[4, 0, 0, 0, 1], &[7, 1]);
     case(b"22 and 24", &[], &[7]);
+}
+
+fn later_faults() {
     case(b"23 and 24", &[4, 0, 0, 0], &[7]);
     case(b"23 and 25", &[4, 0, 0, 0], &[7, 513]);
     case(b"24 and 25", &[1, 0, 7, 0], &[7, 513, 7]);
@@ -136,6 +150,10 @@ fn lit() {
     case(b"a pair given twice", &[1, 0, 7, 0], &[7, 3, 7, 3]);
     case(b"a group without a pair", &[1, 0, 8, 0], &[7, 3]);
     case(b"an empty patch", &[1, 0, 7, 0], &[]);
+}
+
+// Lamps of ADD and CUT.
+fn operations() {
     case(
         b"ADD of 1 2 and 2 3",
         &[1, 0, 7, 0, 1, 1, 8, 0, 2, 0, 0, 1],
@@ -151,6 +169,10 @@ fn lit() {
         &[1, 0, 7, 0, 1, 1, 8, 0, 3, 0, 1, 0],
         &[7, 1, 7, 2, 8, 2, 8, 3],
     );
+}
+
+// Lamps by the register.
+fn answers() {
     case(b"an answer only in register 1", &[1, 1, 7, 0], &[7, 1]);
     case(
         b"through register 12",
@@ -161,8 +183,14 @@ fn lit() {
 
 fn main() {
     lengths();
-    instructions();
+    most_instructions();
+    registers();
+    loads();
     patches();
+    pairs();
     faults();
+    later_faults();
     lit();
+    operations();
+    answers();
 }

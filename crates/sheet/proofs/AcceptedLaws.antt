@@ -8,12 +8,12 @@ use native.Mathlib.Omega.{arith}
 use borrow.Author.Tests.{eqb-true, eqb-false, ltb-true, ltb-false}
 use lib.Dec.{eqb, ltb}
 use lib.ListN.{length, replicate, take, drop}
-use lib.Seq.{take-at}
 use Rattle.tree.specs.Tree.{Tree, mostNodes, postfix, size, isIn, collect, groups}
 use Rattle.tree.specs.Parse.{treeOf}
 use Rattle.tree.proofs.TreeLaws.{postfix-length}
 use Rattle.tree.proofs.GroupLaws.{groups-leaves}
 use Rattle.tree.proofs.ParseLaws.{parse-sound, tree-of-postfix}
+use Rattle.tree.proofs.WritingLaws.{take-over}
 use Rattle.text.specs.Parts.{Parts, last, part, split}
 use Rattle.text.specs.Line.{lineFeed}
 use Rattle.sheet.specs.Form.{lineOf, lineAt}
@@ -190,11 +190,11 @@ number-refused s n = go (reading s) refl n
 -- ---- the arrays of an accepted sheet's answer hold its tree's entries and its marks
 pub answered-tree : (st : State) → take (answer (accepted st) .nodes) (answer (accepted st) .tree) ≡ st .entries
 unfolding answer
-answered-tree st = take-at (st .entries) (drop (length (st .entries)) (replicate mostSheetNodes 0)) (length (st .entries)) refl
+answered-tree st = take-over (st .entries) (replicate mostSheetNodes 0) (length (st .entries)) refl
 
 pub answered-marks : (st : State) → take (answer (accepted st) .marked) (answer (accepted st) .marks) ≡ st .marks
 unfolding answer
-answered-marks st = take-at (st .marks) (drop (length (st .marks)) (replicate mostGroups 0)) (length (st .marks)) refl
+answered-marks st = take-over (st .marks) (replicate mostGroups 0) (length (st .marks)) refl
 
 -- ---- the next lift: its line stands at the present byte, its numbers are in their ranges, and the others follow
 pub lifts-first : (s : List ℕ) (at to : ℕ) (m : LiftLine) (ms : List LiftLine) → LiftsTo s at (m ∷ ms) to

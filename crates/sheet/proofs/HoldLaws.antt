@@ -5,13 +5,12 @@ use mathlib.Core.List.{List, [], _∷_, _++_}
 use Prim.Native.Nat.{ℕ, _+_, _-_, _≤_, _<_}
 use native.Mathlib.Omega.{arith}
 use lib.Dec.{leb, ltb}
-use lib.ListN.{length, replicate, set, take, drop, length-append, length-replicate}
-use lib.Seq.{take-at}
+use lib.ListN.{length, replicate, set, take, length-append, length-replicate}
 use Rattle.tree.specs.Tree.{isGroup, isIn, withNew}
 use Rattle.tree.specs.Pass.{pass}
 use Rattle.tree.specs.Writing.{Wrote}
 use Rattle.tree.proofs.GroupLaws.{distinct-most}
-use Rattle.tree.proofs.WritingLaws.{wrote-nothing, wrote-one, wrote-then, wrote-as, wrote-over}
+use Rattle.tree.proofs.WritingLaws.{wrote-nothing, wrote-one, wrote-then, wrote-as, wrote-over, wrote-take}
 use Rattle.sheet.specs.Reading.{mostGroups, State, ended, trees, first, orderFault, kindFault, faultOf, entered, next, blank, accepted}
 use Rattle.sheet.specs.Holding.{InRange, Sound, Holds, Stepped, Gives}
 use Rattle.sheet.specs.declared.Line.{Line}
@@ -19,10 +18,6 @@ use Rattle.sheet.specs.declared.Line.the-variants.{Group, Operator, Lift
 use Rattle.sheet.specs.declared.Progress.{Progress}
 use Rattle.sheet.proofs.EntriesLaws.{more-group, more-operator}
 use Rattle.sheet.proofs.SoundLaws.{first-none, first-some, first-second, sound-next, sound-mark, sound-lift, sound-end, sound-blank}
-
--- what was written at the front of zeros
-wrote-take : {out out′ : List ℕ} {n : ℕ} {xs : List ℕ} → Wrote out 0 out′ n xs → length xs ≤ length out → take n out′ ≡ xs
-wrote-take {out} {out′} {n} {xs} w h = let z : length xs ≡ n = omega (arith, w .ends) in rw (wrote-over w h) (take-at xs (drop (length xs) out) n z)
 
 -- ---- the first of two faults, where the code has the first as f
 pub order-first : (f F rest : ℕ) → f ≡ F → (f ≡ 0 → ⊥) → first F rest ≡ f

@@ -21,6 +21,15 @@ fn show(name: &[u8], bytes: &[u8]) {
     io::write_all(1, b"\n");
 }
 
+// A case in one text: its name, a stroke and the sheet.
+fn case(text: &[u8]) {
+    let k = text::find(text, b'|');
+    if k == text.len() {
+        return;
+    }
+    show(&text[..k], &text[k + 1..]);
+}
+
 fn wide(x: u16) -> usize {
     x as usize
 }
@@ -51,74 +60,83 @@ pub fn example() {
     show_list(b"its marks", &marks, 8);
 }
 
+pub fn ends() {
+    case(b"empty|");
+    case(b"end alone|E\n");
+    case(b"no end|G\t1\n");
+    case(b"last line without LF|G\t1\nE");
+}
+
+pub fn past_the_end() {
+    case(b"line without LF after the end|G\t1\nE\nE");
+    case(b"good line after the end|G\t1\nE\nE\n");
+    case(b"bad line after the end|G\t1\nE\nX\n");
+}
+
 pub fn order() {
-    show(b"empty", b"");
-    show(b"end alone", b"E\n");
-    show(b"no end", b"G\t1\n");
-    show(b"last line without LF", b"G\t1\nE");
-    show(b"line without LF after the end", b"G\t1\nE\nE");
-    show(b"good line after the end", b"G\t1\nE\nE\n");
-    show(b"bad line after the end", b"G\t1\nE\nX\n");
-    show(b"group after a lift", b"G\t1\nL\t0\t1\nG\t2\n");
-    show(b"lift after a mark", b"G\t1\nK\t1\nL\t0\t1\n");
-    show(b"lift first", b"L\t0\t1\n");
-    show(b"mark first", b"K\t1\n");
-    show(
-        b"lifts begin after the tree without lifts",
-        b"G\t1\nK\t1\nE\n",
-    );
+    case(b"group after a lift|G\t1\nL\t0\t1\nG\t2\n");
+    case(b"lift after a mark|G\t1\nK\t1\nL\t0\t1\n");
+    case(b"lift first|L\t0\t1\n");
+    case(b"mark first|K\t1\n");
+    case(b"lifts begin after the tree without lifts|G\t1\nK\t1\nE\n");
 }
 
 pub fn trees() {
-    show(b"two trees before the end", b"G\t1\nG\t2\nE\n");
-    show(b"two trees before a lift", b"G\t1\nG\t2\nL\t0\t1\nE\n");
-    show(
-        b"two trees before a mark of no group",
-        b"G\t1\nG\t2\nK\t3\nE\n",
-    );
-    show(b"operator first", b"U\nE\n");
-    show(b"operator with one tree", b"G\t1\nD\n");
+    case(b"two trees before the end|G\t1\nG\t2\nE\n");
+    case(b"two trees before a lift|G\t1\nG\t2\nL\t0\t1\nE\n");
+    case(b"two trees before a mark of no group|G\t1\nG\t2\nK\t3\nE\n");
+    case(b"operator first|U\nE\n");
+    case(b"operator with one tree|G\t1\nD\n");
 }
 
 pub fn marks() {
-    show(b"mark of no group", b"G\t1\nK\t2\nE\n");
-    show(b"mark twice", b"G\t1\nK\t1\nK\t1\nE\n");
-    show(b"mark of no group twice", b"G\t1\nK\t1\nK\t2\nK\t2\nE\n");
+    case(b"mark of no group|G\t1\nK\t2\nE\n");
+    case(b"mark twice|G\t1\nK\t1\nK\t1\nE\n");
+    case(b"mark of no group twice|G\t1\nK\t1\nK\t2\nK\t2\nE\n");
 }
 
 pub fn groups() {
-    show(b"group 0", b"G\t0\nE\n");
-    show(b"group 01", b"G\t01\nE\n");
-    show(b"group 10000", b"G\t10000\nE\n");
-    show(b"group 65537", b"G\t65537\nE\n");
-    show(b"group of 20 digits", b"G\t18446744073709551617\nE\n");
-    show(b"group with a space", b"G\t 1\nE\n");
-    show(b"group with a CR", b"G\t1\r\nE\n");
-    show(b"group with no field", b"G\nE\n");
-    show(b"group with an empty field", b"G\t\nE\n");
-    show(b"group with two fields", b"G\t1\t2\nE\n");
-    show(b"group 9999", b"G\t9999\nE\n");
-    show(b"mark 0", b"G\t1\nK\t0\nE\n");
+    case(b"group 0|G\t0\nE\n");
+    case(b"group 01|G\t01\nE\n");
+    case(b"group 10000|G\t10000\nE\n");
+    case(b"group 65537|G\t65537\nE\n");
+    case(b"group of 20 digits|G\t18446744073709551617\nE\n");
+}
+
+pub fn fields() {
+    case(b"group with a space|G\t 1\nE\n");
+    case(b"group with a CR|G\t1\r\nE\n");
+    case(b"group with no field|G\nE\n");
+    case(b"group with an empty field|G\t\nE\n");
+    case(b"group with two fields|G\t1\t2\nE\n");
+}
+
+pub fn group_limits() {
+    case(b"group 9999|G\t9999\nE\n");
+    case(b"mark 0|G\t1\nK\t0\nE\n");
 }
 
 pub fn lifts() {
-    show(b"position 8191", b"G\t1\nL\t8191\t1\nE\n");
-    show(b"position 8190", b"G\t1\nL\t8190\t1\nE\n");
-    show(b"levels 100", b"G\t1\nL\t0\t100\nE\n");
-    show(b"levels 99", b"G\t1\nL\t0\t99\nE\n");
-    show(b"levels 0", b"G\t1\nL\t0\t0\nE\n");
-    show(b"lift with one field", b"G\t1\nL\t0\nE\n");
-    show(b"lift with three fields", b"G\t1\nL\t0\t1\t1\nE\n");
-    show(b"lift with a last tab", b"G\t1\nL\t0\t1\t\nE\n");
+    case(b"position 8191|G\t1\nL\t8191\t1\nE\n");
+    case(b"position 8190|G\t1\nL\t8190\t1\nE\n");
+    case(b"levels 100|G\t1\nL\t0\t100\nE\n");
+    case(b"levels 99|G\t1\nL\t0\t99\nE\n");
+    case(b"levels 0|G\t1\nL\t0\t0\nE\n");
+}
+
+pub fn lift_fields() {
+    case(b"lift with one field|G\t1\nL\t0\nE\n");
+    case(b"lift with three fields|G\t1\nL\t0\t1\t1\nE\n");
+    case(b"lift with a last tab|G\t1\nL\t0\t1\t\nE\n");
 }
 
 pub fn bytes() {
-    show(b"empty line", b"\n");
-    show(b"two tabs", b"G\t\t1\nE\n");
-    show(b"kind of two letters", b"GG\t1\nE\n");
-    show(b"end with a field", b"G\t1\nE\t1\n");
-    show(b"NUL", b"G\t1\n\x00\nE\n");
-    show(b"255", b"G\t\xff\nE\n");
+    case(b"empty line|\n");
+    case(b"two tabs|G\t\t1\nE\n");
+    case(b"kind of two letters|GG\t1\nE\n");
+    case(b"end with a field|G\t1\nE\t1\n");
+    case(b"NUL|G\t1\n\x00\nE\n");
+    case(b"255|G\t\xff\nE\n");
 }
 
 // Appends bytes where there is room for them.
@@ -162,9 +180,8 @@ fn show_nodes(name: &[u8], first: &[u8], groups: usize, operators: usize, last: 
     show(name, &buffer[..n]);
 }
 
-// The limits of nodes and groups.
+// The limit of nodes.
 pub fn nodes() {
-    let eight = b"G\t1\nG\t2\nG\t3\nG\t4\nG\t5\nG\t6\nG\t7\nG\t8\n";
     show_nodes(b"1023 nodes", b"", 512, 511, b"");
     show_nodes(b"1024th node a group", b"", 512, 511, b"G\t1\n");
     show_nodes(b"1024th node an operator", b"", 513, 510, b"U\n");
@@ -175,6 +192,11 @@ pub fn nodes() {
         511,
         b"U\n",
     );
+}
+
+// The limit of groups.
+pub fn different_groups() {
+    let eight = b"G\t1\nG\t2\nG\t3\nG\t4\nG\t5\nG\t6\nG\t7\nG\t8\n";
     show_nodes(b"1024th node a ninth group", eight, 504, 511, b"G\t9\n");
     show_nodes(b"ninth group", eight, 0, 0, b"G\t9\n");
     show_nodes(b"eight groups", eight, 0, 7, b"");

@@ -5,13 +5,19 @@ mod vectors;
 
 fn main() {
     cases::example();
+    cases::ends();
+    cases::past_the_end();
     cases::order();
     cases::trees();
     cases::marks();
     cases::groups();
+    cases::fields();
+    cases::group_limits();
     cases::lifts();
+    cases::lift_fields();
     cases::bytes();
     cases::nodes();
+    cases::different_groups();
     cases::sizes();
     vectors::refusals();
 }

@@ -41,6 +41,7 @@ end-cases P xs y x e p q = go (isIn xs x) refl (eqb x y) refl (sym (is-in-end xs
     go false r true s e = q (eqb-true x y s)
     go false r false s e = absurd (false≢true e)
 
+-- in a list with one number more where it is not in it yet
 pub is-in-new : (xs : List ℕ) (y x : ℕ) → isIn (withNew xs y) x ≡ (isIn xs x || eqb x y)
 is-in-new xs y x = go (isIn xs y) refl
   where
@@ -61,6 +62,7 @@ in-collect xs (y ∷ ys) x = in-collect (withNew xs y) ys x ∙ ap (λ (b : Bool
     or-assoc true b c = refl
     or-assoc false b c = refl
 
+-- the numbers of two lists, one after the other
 pub collect-append : (xs ys zs : List ℕ) → collect xs (ys ++ zs) ≡ collect (collect xs ys) zs
 unfolding collect
 collect-append xs [] zs = refl
@@ -71,6 +73,7 @@ pub groups-leaves : (t : Tree) (g : ℕ) → isIn (groups t) g ≡ isIn (leaves 
 groups-leaves t g = in-collect [] (leaves t) g ∙ (unfold isIn in refl)
 
 -- ---- lists of different numbers
+-- one different number more
 pub distinct-end : (xs : List ℕ) (y : ℕ) → Distinct xs → isIn xs y ≡ false → Distinct (xs ++ (y ∷ []))
 unfolding Distinct isIn
 distinct-end [] y d e = (refl, tt)

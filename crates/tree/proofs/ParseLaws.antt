@@ -58,7 +58,7 @@ abbrev pushedOn : Entry → Option (List Tree) → Option (List Tree)
 pushedOn e none = none
 pushedOn e (some s) = pushedTree 0 e s
 
--- no tree turns on its position
+-- what is pushed does not depend on the entry's position
 pushed-any : (i : ℕ) (e : Entry) (s : List Tree) → pushedTree i e s ≡ pushedTree 0 e s
 pushed-any i (group g h) s = refl
 pushed-any i (operator o) [] = refl
@@ -124,6 +124,7 @@ pub record IsTree (l : List ℕ) : Type 0 where
   pub list : l ≡ postfix tree
   pub most : size tree ≤ mostNodes
 
+-- it has an entry for each node
 pub tree-length : {l : List ℕ} (I : IsTree l) → length l ≡ size (I .tree)
 tree-length I = ap length (I .list) ∙ postfix-length (I .tree)
 

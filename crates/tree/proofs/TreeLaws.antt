@@ -29,6 +29,7 @@ group-least g h = leb→le 1 g (and-left (leb 1 g) (leb g mostGroup) h)
 pub group-most : (g : ℕ) → T (isGroup g) → g ≤ mostGroup
 group-most g h = leb→le g mostGroup (and-right (leb 1 g) (leb g mostGroup) h)
 
+-- union has the lower of the operators' numbers
 pub sign-least : (o : Operator) → sign union ≤ sign o
 sign-least union = omega arith
 sign-least difference = omega arith

@@ -5,7 +5,7 @@ use Prim.Native.Nat.{ℕ, suc, _+_, _≤_, _<_}
 use native.Mathlib.Omega.{arith}
 use native.Mathlib.Numerals.{add-one}
 use lib.ListN.{length, getD, set, take, drop, length-append, length-set}
-use lib.Seq.{sets, sets-eq, take-suc}
+use lib.Seq.{sets, sets-eq, take-at, take-suc}
 use Rattle.tree.specs.Writing.{over, Wrote}
 
 pub sets-append : (l vs ws : List ℕ) (i j : ℕ) → i + length vs ≡ j → sets l i (vs ++ ws) ≡ sets (sets l i vs) j ws
@@ -33,6 +33,13 @@ wrote-as {out} {out₁} {at} {at₁} w e = rw e at w
 -- what was written from the front on, as 01 says it
 pub wrote-over : {out out₁ : List ℕ} {n : ℕ} {xs : List ℕ} → Wrote out 0 out₁ n xs → length xs ≤ length out → out₁ ≡ over xs out
 wrote-over {out} {out₁} {n} {xs} w h = w .list ∙ sets-eq xs out 0 (omega arith) ∙ ap (λ (k : ℕ). xs ++ drop k out) (let z : 0 + length xs ≡ length xs = omega arith in z)
+
+-- the front of such a buffer
+pub take-over : (xs out : List ℕ) (n : ℕ) → n ≡ length xs → take n (over xs out) ≡ xs
+take-over xs out n e = take-at xs (drop (length xs) out) n (sym e)
+
+pub wrote-take : {out out₁ : List ℕ} {n : ℕ} {xs : List ℕ} → Wrote out 0 out₁ n xs → length xs ≤ length out → take n out₁ ≡ xs
+wrote-take {out} {out₁} {n} {xs} w h = rw (wrote-over w h) (take-over xs out n (omega (arith, w .ends)))
 
 -- one entry more of a list that is copied
 pub wrote-next : {out out₁ : List ℕ} {at next : ℕ} (source : List ℕ) (i : ℕ) → i < length source → Wrote out at out₁ next (take i source)
