@@ -10,6 +10,7 @@ use native.Mathlib.Omega.{arith}
 use lib.Dec.{T}
 use lib.ListN.{length}
 use Rattle.tree.specs.Tree.{Operator, union, difference, Tree, leaf, isGroup, size, apply, selects, Over, isIn, Distinct}
+use Rattle.tree.proofs.TreeLaws.{or-false}
 use Rattle.tree.proofs.GroupLaws.{is-in-here, in-later}
 use Rattle.tree.proofs.PassLaws.{entry-leaf}
 use Rattle.table.proofs.TableLaws.{row-below, row-filling}
@@ -19,10 +20,6 @@ use Rattle.builder.specs.declared.Form.{Form}
 use Rattle.builder.specs.declared.Form.the-variants.{Lower, Less, JoinedLess, Plus, ReducedPlus}
 
 -- ---- union and difference that know the empty case
-or-false : (a : Bool) → a ≡ a || false
-or-false true = refl
-or-false false = refl
-
 and-true : (a : Bool) → a ≡ a && true
 and-true true = refl
 and-true false = refl
@@ -30,7 +27,7 @@ and-true false = refl
 pub join-selects : (v : ℕ → Bool) (o : Operator) (a b : Option Tree) → selectsOptional v (join o a b) ≡ apply o (selectsOptional v a) (selectsOptional v b)
 unfolding selects
 join-selects v union none b = refl
-join-selects v union (some a) none = or-false (selects v a)
+join-selects v union (some a) none = sym (or-false (selects v a))
 join-selects v union (some a) (some b) = refl
 join-selects v difference none b = refl
 join-selects v difference (some a) none = and-true (selects v a)

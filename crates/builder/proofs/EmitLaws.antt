@@ -17,7 +17,7 @@ use Rattle.tree.proofs.TreeLaws.{postfix-length, size-positive}
 use Rattle.tree.proofs.GroupLaws.{is-in-here, in-later}
 use Rattle.tree.proofs.PassLaws.{here}
 use Rattle.tree.proofs.WritingLaws.{wrote-nothing, wrote-then, wrote-as}
-use Rattle.table.specs.Table.{rowsOf}
+use Rattle.table.specs.Table.{rowCount, rowsOf}
 use Rattle.builder.specs.Building.{postfixOptional, sizeOptional, join, single, formed, differs, within, formOf, expand, mostExpanded, opening, outer, between, closing, Segment, Emitted}
 use Rattle.builder.specs.declared.Form.{Form}
 use Rattle.builder.specs.declared.Form.the-variants.{Lower, Less, JoinedLess, Plus, ReducedPlus}
@@ -216,7 +216,7 @@ pub record Halved (gs : List ℕ) (j off step rows : ℕ) : Type 0 where
   pub falls : length (drop (j + 1) gs) < length (drop j gs)
   pub lower : Segment gs (j + 1) off (step + step) (rows / 2)
   pub upper : Segment gs (j + 1) (off + step) (step + step) (rows / 2)
-  pub one : off + step < 256
+  pub one : off + step < rowCount
   pub nodes : mostExpanded (length (drop j gs)) ≡ mostExpanded (length (drop (j + 1) gs)) + mostExpanded (length (drop (j + 1) gs)) + 5
   pub group : isGroup (getD gs j 0) ≡ true
 

@@ -116,7 +116,7 @@ pub record Segment (gs : List ℕ) (j off step rows : ℕ) : Type 0 where
   pub within : j ≤ length gs
   pub count : rows ≡ 2 ^ length (drop j gs)
   pub inside : off + step * rows < rowCount + step
-  pub small : step < 512
+  pub small : step < 2 * rowCount
   pub groups : (g : ℕ) → isIn (drop j gs) g ≡ true → isGroup g ≡ true
 
 -- their tree was written

@@ -65,7 +65,7 @@ pub enum Form {
 
 // Whether, of `count` rows from `a` on and as many from `b` on, the second differs from `base` wherever the first does.
 fn within(t: &[bool; ROWS], base: bool, a: usize, b: usize, step: usize, count: usize) -> bool
-    requires { ⌜ (step < 512) × (a + step * count < rowCount + step) × (b + step * count < rowCount + step) ⌝ }
+    requires { ⌜ (step < 2 * rowCount) × (a + step * count < rowCount + step) × (b + step * count < rowCount + step) ⌝ }
     ensures { λ r. ⌜ r ≡ within (rowsOf (now (t .entry))) base a b step count ⌝ }
 {
     let mut i = a;
@@ -86,7 +86,7 @@ fn within(t: &[bool; ROWS], base: bool, a: usize, b: usize, step: usize, count: 
 
 // The form for a group, by its lower half's rows from `off` on and its upper half's from `one` on.
 fn plan(t: &[bool; ROWS], off: usize, one: usize, step: usize, count: usize) -> Form
-    requires { ⌜ (step < 512) × (off + step * count < rowCount + step) × (one + step * count < rowCount + step) × (off < rowCount) × (one < rowCount) ⌝ }
+    requires { ⌜ (step < 2 * rowCount) × (off + step * count < rowCount + step) × (one + step * count < rowCount + step) × (off < rowCount) × (one < rowCount) ⌝ }
     ensures { λ r. ⌜ r ≡ formOf (rowsOf (now (t .entry))) off one step count ⌝ }
 {
     let base = t[off];

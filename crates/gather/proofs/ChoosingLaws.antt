@@ -63,9 +63,9 @@ Verdict m Ta ms us t Never = FiveFillings m t
 Verdict m Ta ms us t Constant = Result m Ta ms us t Constant
 Verdict m Ta ms us t (Columns low high start) = Result m Ta ms us t (Columns low high start)
 
-or-left-false : (a b : Bool) → a || b ≡ false → a ≡ false
-or-left-false true b e = e
-or-left-false false b e = refl
+pub both-false : (a b : Bool) → (a || b) ≡ false → (a ≡ false) × (b ≡ false)
+both-false true b e = absurd (true≢false e)
+both-false false b e = (refl, e)
 
 module _ (Ta : ℕ → Bool) (ms us : List ℕ) {m : ℕ → Bool} (parts : Parts m ms us) where
   abbrev w : ℕ
@@ -176,7 +176,7 @@ module _ (Ta : ℕ → Bool) (ms us : List ℕ) {m : ℕ → Bool} (parts : Part
           go (inl e) = rw e (c .zero-row)
           go (inr e) =
               let q = by-columns low high start all 0 0 (pow-pos (length ms)) (pow-pos (length us)) in
-              ap Ta (omega (arith, mul-zero w)) ∙ or-left-false (Ta (low + w * 0)) (Ta (high + w * 0) && Ta (start + 0)) (sym q ∙ ap Ta (omega (arith, mul-zero w)) ∙ c .zero-row)
+              ap Ta (omega (arith, mul-zero w)) ∙ both-false (Ta (low + w * 0)) (Ta (high + w * 0) && Ta (start + 0)) (sym q ∙ ap Ta (omega (arith, mul-zero w)) ∙ c .zero-row) .0
 
       high-zero : Ta start ≡ true → Ta high ≡ false
       high-zero h = go (c .one-zero)

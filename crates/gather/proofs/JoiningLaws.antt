@@ -9,7 +9,7 @@ use native.Mathlib.Nat.{mod-eq-of-lt, add-mul-mod-self-left, mul-suc, mul-le-mul
 use native.Mathlib.Omega.{arith}
 use lib.ListN.{length, getD}
 use Rattle.tree.specs.Tree.{union, difference, Tree, leaf, node, size, Over}
-use Rattle.tree.proofs.TreeLaws.{size-positive}
+use Rattle.tree.proofs.TreeLaws.{size-positive, or-false}
 use Rattle.table.specs.Table.{rowOf}
 use Rattle.builder.specs.Building.{selectsOptional, sizeOptional, OverOptional, join, single, differs, expand}
 use Rattle.builder.proofs.BuildingLaws.{join-selects, single-leaf, single-over, group-holds, every-passes, Passes, implies, implied, implies-by, beq-true, expand-selects, expand-over, expand-some}
@@ -119,15 +119,11 @@ module _ (Ta : ℕ → Bool) (ms us : List ℕ) {m : ℕ → Bool} (parts : Part
   nothing true = refl
   nothing false = refl
 
-  or-nothing : (x y : Bool) → y ≡ false → (x || y) ≡ x
-  or-nothing true y e = refl
-  or-nothing false y e = e
-
   pub constant-selects : Ta 0 ≡ false → selectsOptional v (constantTree Ta ms us) ≡ Ta (0 + w * rowOf v us)
   constant-selects e =
       join-selects v union (expand Ta 0 w us) (join difference (single (getD ms 0 0)) (single (getD ms 0 0)))
       ∙ ap₂ _||_ (at-low 0 e) (join-selects v difference (single (getD ms 0 0)) (single (getD ms 0 0)) ∙ nothing (selectsOptional v (single (getD ms 0 0))))
-      ∙ or-nothing _ _ refl
+      ∙ or-false _
 
 -- ---- where the holder is
 at-position : {m : ℕ → Bool} {o : Option Tree} {p q : ℕ} → p ≡ q → GatheredOptional m o p → GatheredOptional m o q

@@ -1,6 +1,6 @@
 -- The whole: what has no fault, the groups with the marks first, and what a choice and its tree say of the given tree.
 use mathlib.Core.Path.{_≡_, refl, sym, ap, ap₂, subst, _∙_}
-use mathlib.Core.Bool.{Bool, true, false, not, cond, _||_, true≢false, false≢true}
+use mathlib.Core.Bool.{Bool, true, false, not, cond, _||_, false≢true}
 use mathlib.Core.Logic.{inl, inr}
 use mathlib.Core.List.{List, [], _∷_, _++_}
 use mathlib.Core.Option.{Option, some, none}
@@ -34,7 +34,7 @@ use Rattle.gather.specs.declared.Status.the-variants.{Free, Mixed}
 use Rattle.gather.specs.declared.Gathering.{Gathering}
 use Rattle.gather.specs.declared.Gathering.the-variants.{Done, Refused}
 use Rattle.gather.proofs.GatheringLaws.{fillings-cannot}
-use Rattle.gather.proofs.ChoosingLaws.{Result, Verdict, verdict}
+use Rattle.gather.proofs.ChoosingLaws.{Result, Verdict, verdict, both-false}
 use Rattle.gather.proofs.HoldingLaws.{Names}
 use Rattle.gather.proofs.LoopLaws.{leaves-postfix}
 
@@ -154,10 +154,6 @@ module _ {list gs : List ℕ} {m : ℕ} (o : Ordered list gs m) where
             (a, b, fillings-cannot (subst (Verdict (isIn (take m gs)) (rowsOf rows) (take m gs) (drop m gs) t) d judgement))
 
 -- ---- nothing at fault
-both-false : (a b : Bool) → (a || b) ≡ false → (a ≡ false) × (b ≡ false)
-both-false true b e = absurd (true≢false e)
-both-false false b e = (refl, e)
-
 -- marks that are not bad
 pub record Good (gs marks : List ℕ) : Type 0 where
   pub distinct : Distinct marks

@@ -42,15 +42,15 @@ unfolding postfix
 known-entries (leaf g h) = known-one g (inl h)
 known-entries (node o l r) = known-append (postfix l) _ (known-entries l) (known-append (postfix r) (sign o ∷ []) (known-entries r) (known-one (sign o) (inr (o, refl))))
 
-sign-least : (o : Operator) → 65001 ≤ sign o
+sign-least : (o : Operator) → sign union ≤ sign o
 sign-least union = omega arith
 sign-least difference = omega arith
 
-group-below : (x : ℕ) → Known x → x < 65001 → T (isGroup x)
+group-below : (x : ℕ) → Known x → x < sign union → T (isGroup x)
 group-below x (inl h) l = h
 group-below x (inr (o, e)) l = absurd (omega (arith, sign-least o))
 
-operator-above : (x : ℕ) → Known x → 65001 ≤ x → (o : Operator) × (x ≡ sign o)
+operator-above : (x : ℕ) → Known x → sign union ≤ x → (o : Operator) × (x ≡ sign o)
 operator-above x (inl h) l = absurd (omega (arith, group-most x h))
 operator-above x (inr p) l = p
 
@@ -81,13 +81,13 @@ module _ {A : Type 0} (atLeaf : ℕ → (g : ℕ) → T (isGroup g) → A) (atNo
   entry : (i : ℕ) → i < length list → Known (getD list i 0)
   entry i h = subst Known (at-list i) (known-entries t i (in-list i h))
 
-  pub turn-group : (i : ℕ) (a : List A) (k : ℕ) (b : A) → i < length list → getD list i 0 < 65001 → k < length a
+  pub turn-group : (i : ℕ) (a : List A) (k : ℕ) (b : A) → i < length list → getD list i 0 < sign union → k < length a
       → ((h : T (isGroup (getD list i 0))) → b ≡ atLeaf i (getD list i 0) h) → Passing atLeaf atNode z t i a k → Passing atLeaf atNode z t (i + 1) (set a k b) (k + 1)
   turn-group i a k b h l r v p =
       let g = group-below (getD list i 0) (entry i h) l in
       passing-group atLeaf atNode z t i a k (getD list i 0) g b (in-list i h) (at-list i) r (v g) p
 
-  pub turn-operator : (i : ℕ) (a : List A) (k : ℕ) (b : A) → i < length list → 65001 ≤ getD list i 0 → k ≤ length a
+  pub turn-operator : (i : ℕ) (a : List A) (k : ℕ) (b : A) → i < length list → sign union ≤ getD list i 0 → k ≤ length a
       → ((o : Operator) → getD list i 0 ≡ sign o → b ≡ atNode i o (getD a (k - 2) z) (getD a (k - 1) z))
       → Passing atLeaf atNode z t i a k → Passing atLeaf atNode z t (i + 1) (set a (k - 2) b) (k - 1)
   turn-operator i a k b h l r v p =
@@ -95,7 +95,7 @@ module _ {A : Type 0} (atLeaf : ℕ → (g : ℕ) → T (isGroup g) → A) (atNo
       let q = at-list i ∙ o .1 in
       passing-operator atLeaf atNode z t i a k (o .0) b (in-list i h) q (passing-two atLeaf atNode z t i a k (o .0) (in-list i h) q p) r (v (o .0) (o .1)) p
 
-  pub turn-two : (i : ℕ) (a : List A) (k : ℕ) → i < length list → 65001 ≤ getD list i 0 → Passing atLeaf atNode z t i a k → 2 ≤ k
+  pub turn-two : (i : ℕ) (a : List A) (k : ℕ) → i < length list → sign union ≤ getD list i 0 → Passing atLeaf atNode z t i a k → 2 ≤ k
   turn-two i a k h l p = let o = operator-above (getD list i 0) (entry i h) l in passing-two atLeaf atNode z t i a k (o .0) (in-list i h) (at-list i ∙ o .1) p
 
   pub turn-end : (i : ℕ) (a : List A) (k : ℕ) → length list ≤ i → Passing atLeaf atNode z t i a k → getD a 0 z ≡ fold atLeaf atNode 0 t

@@ -9,13 +9,9 @@ use borrow.Author.Tests.{eqb-true, eqb-false, eq-eqb, ne-eqb}
 use lib.Dec.{T, eqb}
 use lib.ListN.{length, length-append}
 use Rattle.tree.specs.Tree.{Tree, leaf, node, isGroup, leaves, isIn, Distinct, withNew, collect, groups, Over}
-use Rattle.tree.proofs.TreeLaws.{is-in-append, in-left, in-right, over-leaves, leaves-over, over-implies, or-right, or-cases}
+use Rattle.tree.proofs.TreeLaws.{is-in-append, in-left, in-right, over-leaves, leaves-over, over-implies, or-false, or-right, or-cases}
 
 -- ---- membership
-or-false : (x : Bool) → (x || false) ≡ x
-or-false true = refl
-or-false false = refl
-
 is-in-one : (y x : ℕ) → isIn (y ∷ []) x ≡ eqb x y
 unfolding isIn
 is-in-one y x = or-false (eqb x y)

@@ -82,6 +82,10 @@ selects-nothing (node union l r) = ap₂ _||_ (selects-nothing l) (selects-nothi
 selects-nothing (node difference l r) = ap (λ (x : Bool). x && not (selects (λ g. false) r)) (selects-nothing l)
 
 -- ---- membership
+pub or-false : (x : Bool) → (x || false) ≡ x
+or-false true = refl
+or-false false = refl
+
 pub or-right : (x y : Bool) → y ≡ true → (x || y) ≡ true
 or-right true y e = refl
 or-right false y e = e
