@@ -10,7 +10,7 @@ use lib.Dec.{ltb}
 use lib.ListN.{length, take, drop, replicate, length-append}
 use Rattle.tree.specs.Tree.{postfix, size, mostNodes}
 use Rattle.tree.specs.Writing.{over, Wrote}
-use Rattle.tree.proofs.WritingLaws.{wrote-then, wrote-as, wrote-over}
+use Rattle.tree.proofs.WritingLaws.{wrote-then, wrote-as, wrote-over, take-over}
 use Rattle.tree.proofs.TreeLaws.{postfix-length}
 use Rattle.tree.proofs.GroupLaws.{groups-leaves}
 use Rattle.text.specs.Parts.{split}
@@ -29,7 +29,6 @@ use Rattle.key.specs.declared.Keyed.the-variants.{Written, Short}
 use Rattle.key.proofs.AskingLaws.{lifts-few}
 use Rattle.key.proofs.LiftingLaws.{after-keeps}
 use Rattle.key.proofs.GatheringLaws.{markable-keeps}
-use Rattle.key.proofs.EncodingLaws.{take-over}
 use Rattle.key.proofs.DemandLaws.{demand-3}
 
 -- a sheet that is accepted is within the limit

@@ -5,8 +5,8 @@ use Prim.Native.Nat.{ℕ, _*_, _≤_}
 use native.Mathlib.Omega.{arith}
 use borrow.Author.Tests.{le-ltb}
 use lib.ListN.{length, take, drop, replicate, length-append, length-replicate}
-use lib.Seq.{take-at}
 use Rattle.tree.specs.Tree.{Tree, size, mostNodes}
+use Rattle.tree.proofs.WritingLaws.{take-over}
 use Rattle.tree.specs.Writing.{over}
 use Rattle.tree.proofs.ParseLaws.{tree-of-postfix}
 use Rattle.text.specs.Line.{lines}
@@ -20,10 +20,6 @@ use Rattle.coder.proofs.Theorems.{code-length, code-well-formed}
 use Rattle.key.specs.Key.{instructionRows}
 use Rattle.key.specs.Inner.{instructionBytes, IsList}
 use Rattle.key.proofs.PrintingLaws.{codeText, code-most}
-
--- the front of what was written over a buffer
-pub take-over : (xs out : List ℕ) (n : ℕ) → n ≡ length xs → take n (over xs out) ≡ xs
-take-over xs out n e = take-at xs (drop (length xs) out) n (sym e)
 
 -- the numbers that `encode` left, `count` instructions of them, are the code of the tree u
 pub record Encoded (u : Tree) (count : ℕ) (after : List ℕ) : Type 0 where

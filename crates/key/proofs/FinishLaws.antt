@@ -13,7 +13,7 @@ use Rattle.tree.specs.Writing.{Wrote}
 use Rattle.tree.proofs.TreeLaws.{postfix-length, size-positive}
 use Rattle.tree.proofs.ContextLaws.{locate-plug, position-most}
 use Rattle.tree.proofs.ParseLaws.{tree-of-postfix}
-use Rattle.tree.proofs.WritingLaws.{wrote-then, wrote-as}
+use Rattle.tree.proofs.WritingLaws.{wrote-then, wrote-as, take-over}
 use Rattle.text.specs.Line.{line, lines}
 use Rattle.coder.specs.Code.{code, codePlace, runFirst, runCount}
 use Rattle.coder.specs.Coding.{IsRun}
@@ -26,7 +26,6 @@ use Rattle.gather.specs.declared.Gathering.the-variants.{Done, Refused}
 use Rattle.key.specs.Key.{unmarked, heldRun, cannot, HELD, instructionRows}
 use Rattle.key.specs.Inner.{heldBytes, instructionBytes, IsList, Markable, Finished}
 use Rattle.key.proofs.PrintingLaws.{code-most, held-most, never-most}
-use Rattle.key.proofs.EncodingLaws.{take-over}
 use Rattle.key.proofs.GatheringLaws.{no-fault}
 
 -- the text of a tree's code has room

@@ -8,7 +8,7 @@ use lib.Seq.{length-take-le}
 use Rattle.tree.specs.Tree.{Tree, postfix, size, mostNodes}
 use Rattle.tree.specs.Writing.{over, Wrote}
 use Rattle.tree.proofs.TreeLaws.{postfix-length}
-use Rattle.tree.proofs.WritingLaws.{wrote-over}
+use Rattle.tree.proofs.WritingLaws.{wrote-over, take-over}
 use Rattle.text.specs.Line.{line}
 use Rattle.sheet.specs.Form.{mostPosition, mostLevels}
 use Rattle.sheet.specs.Reading.{LiftLine}
@@ -21,7 +21,6 @@ use Rattle.key.specs.Lifting.{lifting, treeLeft}
 use Rattle.key.specs.Inner.{liftBytes, IsList, LiftedOne}
 use Rattle.key.proofs.PrintingLaws.{lift-most}
 use Rattle.key.proofs.LiftingLaws.{lift-of-tree, left-keeps, lifted-bounded, refused-bounded}
-use Rattle.key.proofs.EncodingLaws.{take-over}
 
 -- the lift was done: the new tree's list stands at the front of `new`, and its line is short enough
 pub record DoneLift (t : Tree) (l : LiftLine) (count place looks : ℕ) (new : List ℕ) : Type 0 where

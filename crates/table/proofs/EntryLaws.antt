@@ -11,7 +11,7 @@ use lib.ListN.{length, getD, set, length-append, List·getD-append}
 use lib.Seq.{getD-append-add}
 use Rattle.tree.specs.Tree.{Operator, union, difference, sign, Tree, leaf, node, isGroup, postfix, size, apply, selects}
 use Rattle.tree.specs.Pass.{fold}
-use Rattle.tree.proofs.TreeLaws.{group-most}
+use Rattle.tree.proofs.TreeLaws.{group-most, sign-least}
 use Rattle.tree.proofs.PassLaws.{Passing, passing-group, passing-operator, passing-two, passing-end}
 use Rattle.table.specs.Table.{operatorOf}
 
@@ -41,10 +41,6 @@ pub known-entries : (t : Tree) → KnownAll (postfix t)
 unfolding postfix
 known-entries (leaf g h) = known-one g (inl h)
 known-entries (node o l r) = known-append (postfix l) _ (known-entries l) (known-append (postfix r) (sign o ∷ []) (known-entries r) (known-one (sign o) (inr (o, refl))))
-
-sign-least : (o : Operator) → sign union ≤ sign o
-sign-least union = omega arith
-sign-least difference = omega arith
 
 group-below : (x : ℕ) → Known x → x < sign union → T (isGroup x)
 group-below x (inl h) l = h

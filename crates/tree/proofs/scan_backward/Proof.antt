@@ -1,7 +1,7 @@
 -- `tree::scan_backward` meets its contract: the scan back from `i` with that many operands to pass comes to where that from `to` with 1 does.
 use mathlib.Core.Path.{_≡_, sym, _∙_}
 use mathlib.Core.List.{reverse}
-use Prim.Native.Nat.{_+_, _-_, _≤_, _<_}
+use Prim.Native.Nat.{_+_, _≤_, _<_}
 use native.Mathlib.Omega.{arith}
 use borrow.Author.Needs.{needs}
 use lib.ListN.{length, take}
