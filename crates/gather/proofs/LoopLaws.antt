@@ -7,7 +7,7 @@ use Prim.Native.Nat.{ℕ, _+_, _-_, _≤_, _<_}
 use native.Mathlib.Omega.{arith}
 use native.Mathlib.Numerals.{add-one}
 use lib.Dec.{T, eqb, ltb}
-use borrow.Author.Tests.{eq-eqb, ne-eqb, lt-ltb, le-ltb}
+use borrow.Author.Tests.{lt-ltb, le-ltb}
 use lib.ListN.{length, getD, set, take, drop, length-append, length-drop, drop-of-length-le}
 use lib.Seq.{take-all, take-suc-set, length-take-le}
 use Rattle.tree.specs.Tree.{Operator, union, difference, sign, Tree, leaf, node, postfix, leaves, mostNodes, isIn, withNew, collect}
@@ -19,20 +19,6 @@ use Rattle.tree.proofs.ParseLaws.{the-tree, no-tree-of}
 use Rattle.table.specs.Table.{mostGroups}
 use Rattle.gather.specs.Inner.{leavesIn, Collected}
 use Rattle.gather.specs.Answer.{badMark, groupsFault, treeFault, fault}
-
--- ---- the search in a list
-module _ (gs : List ℕ) (i x : ℕ) where
-  pub in-here : i < length gs → x ≡ getD gs i 0 → isIn (drop i gs) x ≡ true
-  unfolding isIn
-  in-here h e = rw (here gs i h, eq-eqb x (getD gs i 0) e)
-
-  pub in-on : i < length gs → (x ≡ getD gs i 0 → ⊥) → isIn (drop i gs) x ≡ isIn (drop (i + 1) gs) x
-  unfolding isIn
-  in-on h e = rw (here gs i h, ne-eqb x (getD gs i 0) e)
-
-  pub in-none : length gs ≤ i → isIn (drop i gs) x ≡ false
-  unfolding isIn
-  in-none h = rw (drop-of-length-le gs h)
 
 -- ---- the groups of a list
 leaves-append : (xs ys : List ℕ) → leavesIn (xs ++ ys) ≡ leavesIn xs ++ leavesIn ys

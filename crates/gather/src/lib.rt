@@ -75,24 +75,10 @@ fn merge(a: Status, b: Status, at: usize) -> Status
     }
 }
 
-// Whether a number stands in a list.
-fn is_in(list: &[u16], x: u16) -> bool
-    ensures { λ r. ⌜ r ≡ isIn (now (list .entry)) x ⌝ }
-{
-    let mut i = 0;
-    while i < list.len() {
-        if x == list[i] {
-            return true;
-        }
-        i += 1;
-    }
-    false
-}
-
 fn leaf_status(marks: &[u16], at: usize, x: u16) -> Status
     ensures { λ r. ⌜ r ≡ statusOf (isIn (now (marks .entry)) x) at ⌝ }
 {
-    if is_in(marks, x) {
+    if tree::is_in(marks, x) {
         return Status::All(at);
     }
     Status::Free
@@ -147,7 +133,7 @@ fn add_groups(known: Groups, list: &[u16]) -> Groups
     while i < list.len() {
         let x = list[i];
         if x < tree::UNION {
-            let old = is_in(&found[..count], x);
+            let old = tree::is_in(&found[..count], x);
             if old {
                 i += 1;
             } else {
@@ -179,8 +165,8 @@ fn bad_marks(groups: &[u16], marks: &[u16]) -> bool
     while i < marks.len() {
         let x = marks[i];
         let rest = &marks[i + 1..];
-        let twice = is_in(rest, x);
-        let known = is_in(groups, x);
+        let twice = tree::is_in(rest, x);
+        let known = tree::is_in(groups, x);
         if twice | !known {
             return true;
         }

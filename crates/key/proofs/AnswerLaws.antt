@@ -26,7 +26,7 @@ use Rattle.key.specs.Keyed.{keyBytes, KeyFor, Meets, Keys}
 use Rattle.key.specs.Inner.{liftBytes, IsList, Markable, Asked, LiftedAll, Finished, Answered}
 use Rattle.key.specs.declared.Progress.{Progress}
 use Rattle.key.specs.declared.Keyed.the-variants.{Written, Short}
-use Rattle.key.proofs.AskingLaws.{lifts-few}
+use Rattle.sheet.proofs.LiftLineLaws.{lifts-few}
 use Rattle.key.proofs.LiftingLaws.{after-keeps}
 use Rattle.key.proofs.GatheringLaws.{markable-keeps}
 use Rattle.key.proofs.DemandLaws.{demand-3}

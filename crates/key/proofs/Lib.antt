@@ -3,7 +3,6 @@ pub mod KeyLaws
 pub mod PrintingLaws
 pub mod LiftingLaws
 pub mod GatheringLaws
-pub mod AskingLaws
 pub mod EncodingLaws
 pub mod LiftOneLaws
 pub mod LiftAllLaws

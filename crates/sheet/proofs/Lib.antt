@@ -7,3 +7,4 @@ mod SoundLaws
 mod HoldLaws
 mod RunLaws
 pub mod AcceptedLaws
+pub mod LiftLineLaws

@@ -5,7 +5,6 @@ ghost use mathlib.Core.List.{List, [], _∷_};
 ghost use mathlib.Core.Option.{Option};
 ghost use Prim.Native.Nat.{ℕ, _+_, _-_, _≤_, _<_};
 ghost use lib.ListN.{length, replicate};
-ghost use Rattle.tree.specs.Tree.{isIn};
 ghost use Rattle.text.specs.Decimal.{capped};
 ghost use Rattle.text.specs.Parts.{Parts, part, split};
 ghost use Rattle.text.specs.Line.{tab};
@@ -168,20 +167,6 @@ pub fn line_at(sheet: &[u8], at: usize) -> LineAt
     }
 }
 
-// Whether a number stands in a list.
-fn is_in(list: &[u16], x: u16) -> bool
-    ensures { λ r. ⌜ r ≡ isIn (now (list .entry)) x ⌝ }
-{
-    let mut i = 0;
-    while i < list.len() {
-        if x == list[i] {
-            return true;
-        }
-        i += 1;
-    }
-    false
-}
-
 // How far reading has come. The arrays beside it hold the tree's entries (`nodes`), its different groups (`different`) and
 // the marks (`marked`). `fault` is 0 where there is none; `phase` is the place of the last line, `waiting` the number of
 // trees that wait, `start` the byte after the tree lines.
@@ -253,7 +238,7 @@ fn group_step(p: Progress, g: u16, after: usize, tree: &mut [u16], groups: &mut 
     q.nodes = at + 1;
     q.waiting = p.waiting + 1;
     q.start = after; // also where no lift comes
-    if is_in(&groups[..n], g) {
+    if tree::is_in(&groups[..n], g) {
         tree[at] = g;
         return q;
     }
@@ -320,9 +305,9 @@ fn mark_step(p: Progress, g: u16, groups: &[u16], marks: &mut [u16]) -> Progress
         return faulty(p, fault);
     }
     let n = p.different;
-    if is_in(&groups[..n], g) {
+    if tree::is_in(&groups[..n], g) {
         let m = p.marked;
-        if is_in(&marks[..m], g) {
+        if tree::is_in(&marks[..m], g) {
             return faulty(p, MARK_TWICE);
         }
         let mut q = p;

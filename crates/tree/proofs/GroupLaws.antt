@@ -3,12 +3,13 @@
 use mathlib.Core.Path.{_≡_, refl, sym, ap, subst, _∙_}
 use mathlib.Core.Bool.{Bool, true, false, cond, _||_, true≢false, false≢true}
 use mathlib.Core.List.{List, [], _∷_, _++_, append-assoc, append-nil}
-use Prim.Native.Nat.{ℕ, suc, _+_, _≤_}
+use Prim.Native.Nat.{ℕ, suc, _+_, _≤_, _<_}
 use native.Mathlib.Omega.{arith}
 use borrow.Author.Tests.{eqb-true, eqb-false, eq-eqb, ne-eqb}
 use lib.Dec.{T, eqb}
-use lib.ListN.{length, length-append}
+use lib.ListN.{length, length-append, getD, drop, drop-of-length-le}
 use Rattle.tree.specs.Tree.{Tree, leaf, node, isGroup, leaves, isIn, Distinct, withNew, collect, groups, Over}
+use Rattle.tree.proofs.PassLaws.{here}
 use Rattle.tree.proofs.TreeLaws.{is-in-append, in-left, in-right, over-leaves, leaves-over, over-implies, or-false, or-right, or-cases}
 
 -- ---- membership
@@ -202,3 +203,17 @@ collect-distinct xs (y ∷ ys) d =
     ap (λ (b : Bool). collect (cond b xs (xs ++ (y ∷ []))) ys) out
     ∙ collect-distinct (xs ++ (y ∷ [])) ys (subst Distinct (sym (append-assoc xs (y ∷ []) ys)) d)
     ∙ append-assoc xs (y ∷ []) ys
+
+-- ---- a search, from the number at index i on
+module _ (xs : List ℕ) (i x : ℕ) where
+  pub in-here : i < length xs → x ≡ getD xs i 0 → isIn (drop i xs) x ≡ true
+  unfolding isIn
+  in-here h e = rw (here xs i h, eq-eqb x (getD xs i 0) e)
+
+  pub in-on : i < length xs → (x ≡ getD xs i 0 → ⊥) → isIn (drop i xs) x ≡ isIn (drop (i + 1) xs) x
+  unfolding isIn
+  in-on h e = rw (here xs i h, ne-eqb x (getD xs i 0) e)
+
+  pub in-none : length xs ≤ i → isIn (drop i xs) x ≡ false
+  unfolding isIn
+  in-none h = rw (drop-of-length-le xs h)

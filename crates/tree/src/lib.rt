@@ -3,7 +3,7 @@ ghost use mathlib.Core.Path.{_≡_};
 ghost use mathlib.Core.List.{List, reverse};
 ghost use Prim.Native.Nat.{ℕ, _+_, _≤_, _<_};
 ghost use lib.ListN.{length, take, drop};
-ghost use Rattle.tree.specs.Tree.{Tree, isGroup};
+ghost use Rattle.tree.specs.Tree.{Tree, isGroup, isIn};
 ghost use Rattle.tree.specs.Context.{Frame};
 ghost use Rattle.tree.specs.Pass.{entryOf};
 ghost use Rattle.tree.specs.Parse.{treeOf, isSome};
@@ -26,6 +26,20 @@ pub fn is_group(x: u16) -> bool
     ensures { λ r. ⌜ r ≡ isGroup x ⌝ }
 {
     (LEAST_GROUP <= x) & (x <= MOST_GROUP)
+}
+
+// Whether a number stands in a list.
+pub fn is_in(list: &[u16], x: u16) -> bool
+    ensures { λ r. ⌜ r ≡ isIn (now (list .entry)) x ⌝ }
+{
+    let mut i = 0;
+    while i < list.len() {
+        if x == list[i] {
+            return true;
+        }
+        i += 1;
+    }
+    false
 }
 
 // The kind of an entry: 0 a group, 1 an operator, 2 neither.

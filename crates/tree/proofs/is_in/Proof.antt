@@ -1,11 +1,12 @@
+-- The number stands in the list exactly if it stands in what is left of it.
 use mathlib.Core.Path.{_≡_, refl, sym, _∙_}
 use Prim.Native.Nat.{_≤_, _-_}
 use native.Mathlib.Omega.{arith}
 use lib.ListN.{length, drop}
 use Rattle.tree.specs.Tree.{isIn}
-use Rattle.gather.proofs.LoopLaws.{in-here, in-on, in-none}
-use Rattle.gather.proofs.is_in.Statement.{statement}
-use Rattle.gather.proofs.is_in.Tie as tie
+use Rattle.tree.proofs.GroupLaws.{in-here, in-on, in-none}
+use Rattle.tree.proofs.is_in.Statement.{statement}
+use Rattle.tree.proofs.is_in.Tie as tie
 
 abbrev Inv-loop : tie.InvT-loop
 Inv-loop list x i₀ i = (i ≤ length list) × (isIn list x ≡ isIn (drop i list) x)
