@@ -9,7 +9,7 @@ use lib.Dec.{T, ltb}
 use borrow.Author.Tests.{ltb-true, ltb-false}
 use lib.ListN.{length, getD, set, length-append, List·getD-append}
 use lib.Seq.{getD-append-add}
-use Rattle.tree.specs.Tree.{Operator, union, difference, sign, Tree, leaf, node, isGroup, postfix, size, apply, selects}
+use Rattle.tree.specs.Tree.{Operator, union, difference, sign, Tree, leaf, node, isGroup, mostGroup, postfix, size, apply, selects}
 use Rattle.tree.specs.Pass.{fold}
 use Rattle.tree.proofs.TreeLaws.{group-most, sign-least}
 use Rattle.tree.proofs.PassLaws.{Passing, passing-group, passing-operator, passing-two, passing-end}
@@ -76,6 +76,10 @@ module _ {A : Type 0} (atLeaf : ℕ → (g : ℕ) → T (isGroup g) → A) (atNo
 
   entry : (i : ℕ) → i < length list → Known (getD list i 0)
   entry i h = subst Known (at-list i) (known-entries t i (in-list i h))
+
+  -- a leaf's number is a group's
+  pub turn-leaf : (i : ℕ) → i < length list → getD list i 0 < sign union → getD list i 0 ≤ mostGroup
+  turn-leaf i h l = group-most (getD list i 0) (group-below (getD list i 0) (entry i h) l)
 
   pub turn-group : (i : ℕ) (a : List A) (k : ℕ) (b : A) → i < length list → getD list i 0 < sign union → k < length a
       → ((h : T (isGroup (getD list i 0))) → b ≡ atLeaf i (getD list i 0) h) → Passing atLeaf atNode z t i a k → Passing atLeaf atNode z t (i + 1) (set a k b) (k + 1)

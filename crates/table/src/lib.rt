@@ -1,7 +1,9 @@
 // The truth table of a tree over a list of groups.
 ghost use mathlib.Core.Path.{_≡_};
-ghost use Prim.Native.Nat.{ℕ};
-ghost use Rattle.tree.specs.Tree.{Tree, postfix, apply};
+ghost use mathlib.Core.Bool.{false};
+ghost use Prim.Native.Nat.{ℕ, _≤_};
+ghost use lib.ListN.{getD};
+ghost use Rattle.tree.specs.Tree.{Tree, mostGroup, postfix, apply};
 ghost use Rattle.table.specs.Table.{filling, valueAt, table, operatorOf, Listed};
 
 pub const MOST_GROUPS: usize = 8;
@@ -24,6 +26,28 @@ fn in_row(groups: &[u16], row: usize, g: u16) -> bool
     false
 }
 
+// One more than the last group.
+const NUMBERS: usize = 10000;
+
+// Which groups are in at this row, by their numbers: looked up once for each row and not at each leaf.
+fn row_of_groups(groups: &[u16], row: usize) -> [bool; NUMBERS]
+    ensures { λ r. ⌜ ((g : ℕ) → g ≤ mostGroup → getD r g false ≡ filling (now (groups .entry)) row g) ⌝ }
+{
+    let mut inside = [false; NUMBERS];
+    let mut i = 0;
+    while i < groups.len() {
+        let g = groups[i];
+        if g <= tree::MOST_GROUP {
+            let value = in_row(groups, row, g);
+            inside[g as usize] = value;
+            i += 1;
+        } else {
+            i += 1;
+        }
+    }
+    inside
+}
+
 // What the operator x makes of its operands' values.
 fn combine(x: u16, a: bool, b: bool) -> bool
     ensures { λ r. ⌜ r ≡ apply (operatorOf x) a b ⌝ }
@@ -39,13 +63,14 @@ fn eval(list: &[u16], groups: &[u16], row: usize) -> bool
     requires { ⌜ Listed (now list) ⌝ }
     ensures { λ r. ⌜ ((t : Tree) → now (list .entry) ≡ postfix t → r ≡ valueAt (now (groups .entry)) t row) ⌝ }
 {
+    let inside = row_of_groups(groups, row);
     let mut stack = [false; tree::MOST_NODES];
     let mut top: usize = 0;
     let mut i = 0;
     while i < list.len() {
         let x = list[i];
         if x < tree::UNION {
-            let value = in_row(groups, row, x);
+            let value = inside[x as usize];
             stack[top] = value;
             top += 1;
             i += 1;
