@@ -9,15 +9,27 @@ use native.Mathlib.Nat.{mul-add, add-mul, mul-suc, mul-left-comm}
 use native.Mathlib.Omega.{arith}
 use lib.Dec.{T}
 use lib.ListN.{length}
-use Rattle.tree.specs.Tree.{Operator, union, difference, Tree, leaf, isGroup, size, apply, selects, Over, isIn, Distinct}
+use Rattle.tree.specs.Tree.{Operator, union, difference, Tree, leaf, isGroup, size, apply, selects, Over, isIn}
+use Rattle.tree.specs.InnerGroups.{Distinct}
 use Rattle.tree.proofs.TreeLaws.{or-false}
 use Rattle.tree.proofs.GroupLaws.{is-in-here, in-later}
 use Rattle.tree.proofs.PassLaws.{entry-leaf}
-use Rattle.table.proofs.TableLaws.{row-below, row-filling}
-use Rattle.table.specs.Table.{filling, rowOf}
-use Rattle.builder.specs.Building.{selectsOptional, sizeOptional, OverOptional, join, leafOf, single, formed, differs, within, formOf, expand, mostExpanded}
+use Rattle.table.proofs.TableLaws.{row-below, row-filling, rowOf}
+use Rattle.table.specs.InnerTable.{filling}
+use Rattle.builder.specs.InnerBuilding.{sizeOptional, join, leafOf, single, formed, differs, within, formOf, expand, mostExpanded}
 use Rattle.builder.specs.declared.Form.{Form}
 use Rattle.builder.specs.declared.Form.the-variants.{Lower, Less, JoinedLess, Plus, ReducedPlus}
+
+-- ---- no tree or a tree: what selects nothing needs no tree
+-- what it selects
+abbrev pub selectsOptional : (ℕ → Bool) → Option Tree → Bool
+selectsOptional v none = false
+selectsOptional v (some t) = selects v t
+
+-- every group in it, if there is a tree, passes m
+abbrev pub OverOptional : (ℕ → Bool) → Option Tree → Type 0
+OverOptional m none = Unit {0}
+OverOptional m (some t) = Over m t
 
 -- ---- union and difference that know the empty case
 and-true : (a : Bool) → a ≡ a && true

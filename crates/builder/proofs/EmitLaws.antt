@@ -12,13 +12,13 @@ use borrow.Author.Tests.{eq-eqb, ne-eqb}
 use lib.ListN.{length, getD, drop, length-append}
 use lib.Seq.{drop-length}
 use Rattle.tree.specs.Tree.{Operator, union, difference, sign, Tree, isGroup, postfix, isIn}
-use Rattle.tree.specs.Writing.{Wrote}
+use Rattle.tree.specs.InnerWriting.{Wrote}
 use Rattle.tree.proofs.TreeLaws.{postfix-length, size-positive}
 use Rattle.tree.proofs.GroupLaws.{is-in-here, in-later}
 use Rattle.tree.proofs.PassLaws.{here}
 use Rattle.tree.proofs.WritingLaws.{wrote-nothing, wrote-then, wrote-as}
-use Rattle.table.specs.Table.{rowCount, rowsOf}
-use Rattle.builder.specs.Building.{postfixOptional, sizeOptional, join, single, formed, differs, within, formOf, expand, mostExpanded, opening, outer, between, closing, Segment, Emitted}
+use Rattle.table.specs.InnerTable.{rowCount, rowsOf}
+use Rattle.builder.specs.InnerBuilding.{postfixOptional, sizeOptional, join, single, formed, differs, within, formOf, expand, mostExpanded, opening, outer, between, closing, Segment, Emitted}
 use Rattle.builder.specs.declared.Form.{Form}
 use Rattle.builder.specs.declared.Form.the-variants.{Lower, Less, JoinedLess, Plus, ReducedPlus}
 use Rattle.builder.proofs.BuildingLaws.{single-leaf, twice-times, expand-size}

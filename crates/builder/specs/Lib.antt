@@ -1,1 +1,1 @@
-pub mod Building
+pub mod InnerBuilding

@@ -1,32 +1,24 @@
 // Small trees for truth tables: the expansion of a table, one group at a time.
 ghost use mathlib.Core.Path.{_≡_};
-ghost use mathlib.Core.List.{List, [], _∷_};
-ghost use Prim.Native.Nat.{ℕ, _+_, _*_, _<_, _≤_};
+ghost use mathlib.Core.List.{[], _∷_};
+ghost use Prim.Native.Nat.{_+_, _<_, _≤_};
 ghost use lib.Dec.{eqb};
 ghost use lib.ListN.{length, drop};
 ghost use Rattle.tree.specs.Tree.{sign};
-ghost use Rattle.tree.specs.Writing.{Wrote};
-ghost use Rattle.table.specs.Table.{rowCount, rowsOf};
-ghost use Rattle.builder.specs.Building.{within, formOf, opening, outer, closing, between, mostExpanded, Segment, Emitted};
+ghost use Rattle.tree.specs.InnerWriting.{Wrote};
+ghost use Rattle.table.specs.InnerTable.{rowCount, rowsOf};
+ghost use Rattle.builder.specs.InnerBuilding.{within, formOf, opening, outer, closing, between, mostExpanded, RowPairs, Segment, Emitted};
 use table::ROWS;
 
 // ---- writing
 
-// Writes one, two or three numbers at an index, and returns the index after them.
-fn put1(out: &mut [u16], at: usize, x: u16) -> usize
-    requires { ⌜ at + 1 ≤ length (now out) ⌝ }
-    ensures { λ r. ⌜ Wrote (now (out .entry)) at (now (out .exit)) r (x ∷ []) ⌝ }
-{
-    out[at] = x;
-    at + 1
-}
-
+// Writes two or three numbers at an index, and returns the index after them.
 fn put2(out: &mut [u16], at: usize, x: u16, y: u16) -> usize
     requires { ⌜ at + 2 ≤ length (now out) ⌝ }
     ensures { λ r. ⌜ Wrote (now (out .entry)) at (now (out .exit)) r (x ∷ y ∷ []) ⌝ }
 {
-    let a = put1(out, at, x);
-    put1(out, a, y)
+    let a = tree::write_one(x, out, at);
+    tree::write_one(y, out, a)
 }
 
 pub fn put3(out: &mut [u16], at: usize, x: u16, y: u16, z: u16) -> usize
@@ -34,7 +26,7 @@ pub fn put3(out: &mut [u16], at: usize, x: u16, y: u16, z: u16) -> usize
     ensures { λ r. ⌜ Wrote (now (out .entry)) at (now (out .exit)) r (x ∷ y ∷ z ∷ []) ⌝ }
 {
     let a = put2(out, at, x, y);
-    put1(out, a, z)
+    tree::write_one(z, out, a)
 }
 
 // Writes an operator after its operands, which stand from `from` and from `middle` on; nothing where one of them is empty.
@@ -48,7 +40,7 @@ pub fn operate(out: &mut [u16], from: usize, middle: usize, to: usize, operator:
     if middle == to {
         return to;
     }
-    put1(out, to, operator)
+    tree::write_one(operator, out, to)
 }
 
 // ---- the expansion
@@ -65,7 +57,7 @@ pub enum Form {
 
 // Whether, of `count` rows from `a` on and as many from `b` on, the second differs from `base` wherever the first does.
 fn within(t: &[bool; ROWS], base: bool, a: usize, b: usize, step: usize, count: usize) -> bool
-    requires { ⌜ (step < 2 * rowCount) × (a + step * count < rowCount + step) × (b + step * count < rowCount + step) ⌝ }
+    requires { ⌜ RowPairs a b step count ⌝ }
     ensures { λ r. ⌜ r ≡ within (rowsOf (now (t .entry))) base a b step count ⌝ }
 {
     let mut i = a;
@@ -86,7 +78,8 @@ fn within(t: &[bool; ROWS], base: bool, a: usize, b: usize, step: usize, count: 
 
 // The form for a group, by its lower half's rows from `off` on and its upper half's from `one` on.
 fn plan(t: &[bool; ROWS], off: usize, one: usize, step: usize, count: usize) -> Form
-    requires { ⌜ (step < 2 * rowCount) × (off + step * count < rowCount + step) × (one + step * count < rowCount + step) × (off < rowCount) × (one < rowCount) ⌝ }
+    requires { ⌜ RowPairs off one step count ⌝ }
+    requires { ⌜ (off < rowCount) × (one < rowCount) ⌝ }
     ensures { λ r. ⌜ r ≡ formOf (rowsOf (now (t .entry))) off one step count ⌝ }
 {
     let base = t[off];
@@ -119,7 +112,7 @@ fn write_opening(out: &mut [u16], from: usize, at: usize, x: u16, form: Form) ->
             if from == at {
                 return at;
             }
-            put1(out, at, x)
+            tree::write_one(x, out, at)
         }
         Form::JoinedLess => {
             if from == at {
@@ -127,10 +120,10 @@ fn write_opening(out: &mut [u16], from: usize, at: usize, x: u16, form: Form) ->
             }
             put3(out, at, x, tree::UNION, x)
         }
-        Form::Plus => put1(out, at, x),
+        Form::Plus => tree::write_one(x, out, at),
         Form::ReducedPlus => {
             if from == at {
-                return put1(out, at, x);
+                return tree::write_one(x, out, at);
             }
             put3(out, at, x, tree::DIFFERENCE, x)
         }

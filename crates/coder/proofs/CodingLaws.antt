@@ -1,14 +1,15 @@
 -- What `encode` and `run_of` answer: the root's part is the whole list; and going down from the root to the node at a position,
--- each step adds what stands before the child's code in that of its parent.
-use mathlib.Core.Path.{_≡_, refl, sym, ap, _∙_}
+-- each step adds what stands before the child's code in that of its parent. For the crates above: `encodes-tree`.
+use mathlib.Core.Path.{_≡_, refl, sym, ap, ap₂, _∙_}
 use mathlib.Core.Bool.{Bool, true, false, cond}
 use mathlib.Core.Option.{some}
-use mathlib.Core.List.{List, [], _++_}
+use mathlib.Core.List.{List, [], _∷_, _++_}
 use Prim.Native.Nat.{ℕ, _+_, _-_, _≤_, _<_}
 use native.Mathlib.Omega.{arith}
 use borrow.Author.Tests.{lt-ltb, le-ltb, ltb-true, ltb-false}
 use lib.Dec.{ltb}
 use lib.ListN.{length, getD, length-append}
+use Rattle.common.specs.Answer.{done}
 use Rattle.tree.specs.Tree.{Operator, Tree, leaf, node, size}
 use Rattle.tree.specs.Context.{right, plug, before}
 use Rattle.tree.specs.Parse.{treeOf, isSome, locate}
@@ -18,13 +19,13 @@ use Rattle.tree.proofs.ContextLaws.{locate-left, locate-right, locate-here}
 use Rattle.tree.proofs.ParseLaws.{IsTree, tree-length, the-tree, no-tree-of}
 use Rattle.tree.proofs.WritingLaws.{wrote-over}
 use Rattle.coder.specs.Need.{leftFirst}
-use Rattle.coder.specs.Code.{code, codeNumbers, codePlace, runFirst}
-use Rattle.coder.specs.Notes.{NodeAt, Noted, middle, leftIsFirst, Inner, Stepped, Writable}
-use Rattle.coder.specs.Coding.{leastBuffer, Encodes, IsRun}
+use Rattle.coder.specs.Code.{code, codePlace, runFirst, runCount}
+use Rattle.coder.proofs.CodeLaws.{codeNumbers, length-code, length-numbers}
+use Rattle.coder.specs.InnerNotes.{NodeAt, Noted, middle, leftIsFirst, HasChildren, StepsDown, Writable}
+use Rattle.coder.specs.Coding.{leastBuffer, codedSays, Encodes, runOf}
 use Rattle.coder.specs.declared.Coded.{Coded}
 use Rattle.coder.specs.declared.Coded.the-variants.{Done, Refused}
 use Rattle.coder.proofs.NeedLaws.{need-most}
-use Rattle.coder.proofs.CodeLaws.{length-code, length-numbers}
 use Rattle.coder.proofs.RunLaws.{code-stands, before-left, before-right}
 use Rattle.coder.proofs.NoteLaws.{Split, split, left-node, right-node, node-at, node-inside}
 use Rattle.coder.proofs.WriterLaws.{Writes}
@@ -36,18 +37,18 @@ root-node I =
     let e = tree-length I in
     record { from = 0; above = []; is = record { whole = I .list; begins = refl; ends = omega (arith, size-positive (I .tree)) } }
 
-pub root-writable : (l s n out : List ℕ) → isSome (treeOf l) ≡ true → Noted l s n → leastBuffer ≤ length out → Writable l s n (length l - 1) 0 out 0
-root-writable l s n out h N q =
+pub root-writable : {l s n out : List ℕ} {at : ℕ} → isSome (treeOf l) ≡ true → Noted l s n → at + leastBuffer ≤ length out → Writable l s n (length l - 1) 0 out at
+root-writable {l} h N room =
     let I = the-tree l h in
     record { part = I .tree; root = root-node I; noted = N; registers = omega (arith, need-most (I .tree) (I .most)); room = omega (arith, I .most) }
 
 -- ---- the answers of `encode`
 module _ (tree out : List ℕ) where
   pub too-short : length out < leastBuffer → Encodes tree out (Refused 20) out
-  too-short h = let z = lt-ltb (length out) leastBuffer h in record { numbered = rw z; counted = rw z; answered = rw z; written = rw z }
+  too-short h = let z = lt-ltb (length out) leastBuffer h in record { says = rw z; written = rw z }
 
   pub not-a-tree : leastBuffer ≤ length out → isSome (treeOf tree) ≡ false → Encodes tree out (Refused 12) out
-  not-a-tree h e = let z = le-ltb (length out) leastBuffer h in record { numbered = rw (z, e); counted = rw (z, e); answered = rw (z, e); written = rw (z, e) }
+  not-a-tree h e = let z = le-ltb (length out) leastBuffer h in record { says = rw (z, e); written = rw (z, e) }
 
   pub all-written : {after : List ℕ} {next : ℕ} → leastBuffer ≤ length out → isSome (treeOf tree) ≡ true → Writes tree (length tree - 1) 0 out 0 after next
       → Encodes tree out (Done (length tree)) after
@@ -57,18 +58,26 @@ module _ (tree out : List ℕ) where
       let n : length tree ≡ length (code (I .tree) 0) = tree-length I ∙ sym (length-code (I .tree) 0) in
       let L = length-numbers (I .tree) 0 in
       record {
-        numbered = rw (z, I .is);
-        counted = rw (z, I .is) n;
-        answered = rw (z, I .is) (ap Done n);
+        says = rw (z, I .is, n);
         written = rw (z, I .is) (wrote-over (w (I .tree) (root-node I)) (omega (arith, I .most)));
       }
 
--- what a caller who knows the tree and lent enough learns
+only-done : (r : Coded) (n : ℕ) → codedSays r ≡ done (n ∷ []) → r ≡ Done n
+only-done (Done m) n e = cc
+only-done (Refused k) n e = let z : _≡_ {A = ℕ} 0 1 = cc in absurd (omega arith)
+
+-- what a caller who has the tree t and lent enough learns: the call is done, and the code is written
+pub record EncodesTree (t : Tree) (out : List ℕ) (r : Coded) (after : List ℕ) : Type 0 where
+  pub done : r ≡ Done (size t)
+  pub never : (k : ℕ) → r ≡ Refused k → ⊥
+  pub written : after ≡ over (codeNumbers t) out
+
 pub encodes-tree : {tree out after : List ℕ} {r : Coded} {t : Tree} → Encodes tree out r after → treeOf tree ≡ some t → leastBuffer ≤ length out
-    → (r ≡ Done (size t)) × (after ≡ over (codeNumbers t) out)
+    → EncodesTree t out r after
 encodes-tree {tree} {out} {after} {r} {t} E e h =
     let z = le-ltb (length out) leastBuffer h in
-    (E .answered ∙ rw (z, e) (ap Done (length-code t 0)), E .written ∙ rw (z, e))
+    let d : r ≡ Done (size t) = only-done r (size t) (E .says ∙ rw (z, e, length-code t 0)) in
+    record { done = d; never = λ k f. let z : _≡_ {A = ℕ} 0 1 = cc in omega arith; written = E .written ∙ rw (z, e) }
 
 -- ---- going down to the node at a position
 -- the node at `end` has the position in its part, and its code begins with instruction number `first`
@@ -137,7 +146,7 @@ module _ {l s n : List ℕ} {p e b next more : ℕ} (N : Noted l s n) (lt : p < 
           begins = omega (arith, before-right o x y (v .above) 0, passed);
         })
 
-  pub descend : Descent l p e b → Stepped s n e p next more → Descent l p next (b + more)
+  pub descend : Descent l p e b → StepsDown s n e p next more → Descent l p next (b + more)
   descend D T = go (D .part) (D .root) (D .low) (D .sought) (D .begins) (ltb p (middle s e)) refl
     where
       go : (a : Tree) (v : NodeAt l e a) → v .from ≤ p → locate (D .tree) [] p ≡ locate a (v .above) (p - v .from) → b ≡ runFirst a (v .above)
@@ -150,17 +159,17 @@ module _ {l s n : List ℕ} {p e b next more : ℕ} (N : Noted l s n) (lt : p < 
           let S = split v (N .all) (omega (arith, node-inside v)) in
           to-right (D .tree) (D .is) o x y v low q c S (ltb-false p (middle s e) k) (T .child ∙ rw k) (T .passed ∙ rw k)
 
-pub stepped-less : {s n : List ℕ} {p e next more : ℕ} → Inner s e → Stepped s n e p next more → next < e
+pub stepped-less : {s n : List ℕ} {p e next more : ℕ} → HasChildren s e → StepsDown s n e p next more → next < e
 stepped-less {s} {n} {p} {e} {next} {more} I T = rw (T .child) (go (ltb p (middle s e)))
   where
     go : (f : Bool) → cond f (middle s e - 1) (e - 1) < e
     go true = omega (arith, I .right)
     go false = omega (arith, I .right)
 
-pub descent-inner : {l s n : List ℕ} {p e b : ℕ} → Noted l s n → p < e → Descent l p e b → Inner s e
+pub descent-inner : {l s n : List ℕ} {p e b : ℕ} → Noted l s n → p < e → Descent l p e b → HasChildren s e
 descent-inner {l} {s} {n} {p} {e} N lt D = go (D .part) (D .root) (D .low)
   where
-    go : (a : Tree) (v : NodeAt l e a) → v .from ≤ p → Inner s e
+    go : (a : Tree) (v : NodeAt l e a) → v .from ≤ p → HasChildren s e
     go (leaf g h) v low = absurd (unfold size in omega (arith, v .is .ends))
     go (node o x y) v low = split v (N .all) (omega (arith, node-inside v)) .inner (omega (arith, node-inside v, N .few))
 
@@ -174,30 +183,29 @@ descent-end {l} {p} {e} {b} h D t q =
 
 -- ---- the answers of `run_of`
 module _ (l : List ℕ) (p : ℕ) where
-  pub no-such-tree : isSome (treeOf l) ≡ false → IsRun l p (record { first = 0; count = 0 })
-  no-such-tree h = let z = no-tree-of l h in record { first = rw z; count = rw z }
+  pub no-such-tree : isSome (treeOf l) ≡ false → record { first = 0; count = 0 } ≡ runOf (treeOf l) p
+  no-such-tree h = rw (no-tree-of l h)
 
-  pub no-such-node : length l ≤ p → IsRun l p (record { first = 0; count = 0 })
+  pub no-such-node : length l ≤ p → record { first = 0; count = 0 } ≡ runOf (treeOf l) p
   no-such-node h = go (isSome (treeOf l)) refl
     where
-      go : (b : Bool) → isSome (treeOf l) ≡ b → IsRun l p (record { first = 0; count = 0 })
+      go : (b : Bool) → isSome (treeOf l) ≡ b → record { first = 0; count = 0 } ≡ runOf (treeOf l) p
       go true e =
           let I = the-tree l e in
           let z = le-ltb p (size (I .tree)) (omega (arith, tree-length I)) in
-          record { first = rw (I .is, z); count = rw (I .is, z) }
+          rw (I .is, z)
       go false e = no-such-tree e
 
   -- where the node's part begins
   pub part-start : {s n : List ℕ} (e : isSome (treeOf l) ≡ true) → Noted l s n → p < length l → getD s p 0 + size (locate (the-tree l e .tree) [] p .part) ≡ p + 1
   part-start e N h = let v = node-at (the-tree l e) p h in omega (arith, N .all .start p _ v h, v .is .ends)
 
-  pub the-run : {s n : List ℕ} {b : ℕ} → isSome (treeOf l) ≡ true → Noted l s n → p < length l
-      → ((t : Tree) → treeOf l ≡ some t → b ≡ runFirst (locate t [] p .part) (locate t [] p .above))
-      → IsRun l p (record { first = b; count = p + 1 - getD s p 0 })
-  the-run e N h f =
+  pub the-run : {s n : List ℕ} {first count : ℕ} → isSome (treeOf l) ≡ true → Noted l s n → p < length l
+      → ((t : Tree) → treeOf l ≡ some t → first ≡ runFirst (locate t [] p .part) (locate t [] p .above))
+      → count + getD s p 0 ≡ p + 1 → record { first = first; count = count } ≡ runOf (treeOf l) p
+  the-run {s} {n} {first} {count} e N h f c =
       let I = the-tree l e in
       let z = lt-ltb p (size (I .tree)) (omega (arith, tree-length I)) in
-      record {
-        first = rw (I .is, z) (f (I .tree) (I .is));
-        count = rw (I .is, z) (omega (arith, part-start e N h, length-code (locate (I .tree) [] p .part) (codePlace (locate (I .tree) [] p .part) (locate (I .tree) [] p .above) 0 .target)));
-      }
+      let place = locate (I .tree) [] p in
+      let q : count ≡ runCount (place .part) (place .above) = omega (arith, part-start e N h, length-code (place .part) (codePlace (place .part) (place .above) 0 .target)) in
+      rw (I .is, z) (ap₂ (λ (f c : ℕ). record { first = f; count = c }) (f (I .tree) (I .is)) q)

@@ -10,7 +10,13 @@ use lib.Dec.{T, eqb, leb}
 use lib.Pow.{pow-lt}
 use borrow.Author.Tests.{eqb-true, eqb-false, leb-true, leb-false}
 use Rattle.tree.specs.Tree.{Operator, Tree, leaf, node, isGroup, size, mostNodes}
-use Rattle.coder.specs.Need.{needOf, need, leftFirst, first, second, inOrder}
+use Rattle.coder.specs.Need.{needOf, need, leftFirst, inOrder}
+
+abbrev pub first : Tree → Tree → Tree
+first l r = cond (leftFirst l r) l r
+
+abbrev pub second : Tree → Tree → Tree
+second l r = cond (leftFirst l r) r l
 
 -- ---- the order of nodes
 module _ {A : Type 0} (atLeaf : ℕ → ℕ → A) (atNode : ℕ → Operator → Bool → A → A → A) where

@@ -1,5 +1,5 @@
--- Notes of a tree's nodes. A node's part tells the parts of its children, so the notes of the nodes before it tell its own,
--- which child comes first, and what the writer leaves.
+-- Notes of a tree's nodes. A node's part tells the parts of its children, so the notes of the nodes before it tell its own, and
+-- which child comes first.
 use mathlib.Core.Path.{_≡_, refl, sym, ap, ap₂, _∙_}
 use mathlib.Core.Bool.{Bool, true, false}
 use mathlib.Core.List.{List, [], _∷_}
@@ -16,7 +16,7 @@ use Rattle.tree.proofs.TreeLaws.{size-positive, group-most, sign-least}
 use Rattle.tree.proofs.ParseLaws.{IsTree, the-tree, tree-few}
 use Rattle.tree.proofs.PartLaws.{part-length, part-leaf, part-node, part-ends, part-left, part-right, part-of-entry}
 use Rattle.coder.specs.Need.{needOf, need, leftFirst}
-use Rattle.coder.specs.Notes.{NodeAt, NotedBelow, middle, leftIsFirst, Inner, Ordered, Stepped}
+use Rattle.coder.specs.InnerNotes.{NodeAt, NotedBelow, middle, leftIsFirst, HasChildren, ChildrenInOrder, StepsDown}
 use Rattle.coder.proofs.NeedLaws.{need-most}
 
 -- the part of a node whose entry is below the operators is a leaf
@@ -50,7 +50,7 @@ pub record Split (l s n : List ℕ) (e : ℕ) (o : Operator) (x y : Tree) (v : N
   pub left-need : getD n (middle s e - 1) 0 ≡ need x
   pub left-start : getD s (middle s e - 1) 0 ≡ v .from
   pub order : leftIsFirst s n e ≡ leftFirst x y
-  pub inner : e < mostNodes → Inner s e
+  pub inner : e < mostNodes → HasChildren s e
 
 pub split : {l s n : List ℕ} {e i : ℕ} {o : Operator} {x y : Tree} (v : NodeAt l e (node o x y)) → NotedBelow l s n i → e ≤ i → Split l s n e o x y v
 unfolding right-node left-node
@@ -117,40 +117,40 @@ node-at I e h = record { from = length (before (locate (I .tree) [] e .above)); 
 
 -- ---- what the code computes from the notes, by which child comes first
 module _ (s n : List ℕ) (e k : ℕ) where
-  pub ordered-left : getD n (e - 1) 0 ≤ getD n (middle s e - 1) 0 → Ordered s n e k (middle s e - 1) (e - 1) k (k + 1)
+  pub ordered-left : getD n (e - 1) 0 ≤ getD n (middle s e - 1) 0 → ChildrenInOrder s n e k (middle s e - 1) (e - 1) k (k + 1)
   ordered-left h = let f = le-leb (getD n (e - 1) 0) (getD n (middle s e - 1) 0) h in record { one = rw f; two = rw f; left-register = rw f; right-register = rw f }
 
-  pub ordered-right : getD n (middle s e - 1) 0 < getD n (e - 1) 0 → Ordered s n e k (e - 1) (middle s e - 1) (k + 1) k
+  pub ordered-right : getD n (middle s e - 1) 0 < getD n (e - 1) 0 → ChildrenInOrder s n e k (e - 1) (middle s e - 1) (k + 1) k
   ordered-right h = let f = lt-leb (getD n (e - 1) 0) (getD n (middle s e - 1) 0) h in record { one = rw f; two = rw f; left-register = rw f; right-register = rw f }
 
 module _ (s n : List ℕ) (e p : ℕ) where
   module _ (h : getD n (e - 1) 0 ≤ getD n (middle s e - 1) 0) where
-    pub stepped-left-first : p < middle s e → Stepped s n e p (middle s e - 1) 0
+    pub stepped-left-first : p < middle s e → StepsDown s n e p (middle s e - 1) 0
     stepped-left-first lt =
         let f = le-leb (getD n (e - 1) 0) (getD n (middle s e - 1) 0) h in
         let g = lt-ltb p (middle s e) lt in
         record { child = rw g; passed = rw (g, f) }
 
-    pub stepped-right-second : middle s e ≤ p → Stepped s n e p (e - 1) (middle s e - getD s (middle s e - 1) 0)
+    pub stepped-right-second : middle s e ≤ p → StepsDown s n e p (e - 1) (middle s e - getD s (middle s e - 1) 0)
     stepped-right-second le =
         let f = le-leb (getD n (e - 1) 0) (getD n (middle s e - 1) 0) h in
         let g = le-ltb p (middle s e) le in
         record { child = rw g; passed = rw (g, f) }
 
   module _ (h : getD n (middle s e - 1) 0 < getD n (e - 1) 0) where
-    pub stepped-left-second : p < middle s e → Stepped s n e p (middle s e - 1) (e - middle s e)
+    pub stepped-left-second : p < middle s e → StepsDown s n e p (middle s e - 1) (e - middle s e)
     stepped-left-second lt =
         let f = lt-leb (getD n (e - 1) 0) (getD n (middle s e - 1) 0) h in
         let g = lt-ltb p (middle s e) lt in
         record { child = rw g; passed = rw (g, f) }
 
-    pub stepped-right-first : middle s e ≤ p → Stepped s n e p (e - 1) 0
+    pub stepped-right-first : middle s e ≤ p → StepsDown s n e p (e - 1) 0
     stepped-right-first le =
         let f = lt-leb (getD n (e - 1) 0) (getD n (middle s e - 1) 0) h in
         let g = le-ltb p (middle s e) le in
         record { child = rw g; passed = rw (g, f) }
 
--- ---- what the pass finds behind an operator of a tree's list
+-- ---- what the pass finds by its notes at an operator of a tree's list
 pub record Operands (s n : List ℕ) (i : ℕ) : Type 0 where
   pub some : 1 ≤ i
   pub left : 1 ≤ middle s i

@@ -11,23 +11,22 @@ use lib.ListN.{length, take, drop, length-append}
 use lib.Seq.{take-at, drop-at}
 use Rattle.tree.specs.Tree.{Tree, isGroup, size, Rig, selected, mostNodes, Over}
 use Rattle.tree.specs.Context.{Frame, plug, OverAbove}
-use Rattle.tree.specs.Parse.{locate}
 use Rattle.tree.proofs.TreeLaws.{size-positive, group-least, group-most}
 use Rattle.tree.proofs.GroupLaws.{over-is-group}
-use Rattle.tree.proofs.ContextLaws.{located-whole}
 use Rattle.player.specs.Limits.{registerCount, byteCount}
-use Rattle.player.specs.Instructions.{Registers, Instruction, load, add, cut, run, answer, instructions, AllWellFormed}
+use Rattle.player.specs.Instructions.{Registers, Instruction, load, add, cut, run, litLamps, instructions}
+use Rattle.player.proofs.InstructionLaws.{AllWellFormed, instructions-numbers}
+use Rattle.player.proofs.PlayingLaws.{numbers-fault, plays-done}
 use Rattle.player.specs.Patches.{rig}
 use Rattle.player.specs.Bytes.{bytes}
-use Rattle.player.specs.Playing.{wrongPairCount, wrongPatch, fault, Plays}
+use Rattle.player.specs.Playing.{wrongPairCount, wrongPatch, playFault, Plays}
 use Rattle.player.specs.declared.Played.{Played}
 use Rattle.player.specs.declared.Played.the-variants.{Done}
-use Rattle.player.specs.Laws.{instructions-numbers, numbers-fault}
 use Rattle.coder.specs.Need.{need}
-use Rattle.coder.specs.Code.{code, codeNumbers, codePlace, ownCode, runFirst, runCount}
+use Rattle.coder.specs.Code.{code, codePlace, ownCode, runFirst, runCount}
+use Rattle.coder.proofs.CodeLaws.{codeNumbers, length-code, leaves, every-implies, wider, names-waiting, loads}
 use Rattle.coder.specs.Effects.{Every, Names, Loads, writtenAfter, readFirst, noneWritten, ahead, stretch, behind, ClosedRun, LoadsApart}
 use Rattle.coder.proofs.NeedLaws.{need-most, waiting-need}
-use Rattle.coder.proofs.CodeLaws.{length-code, leaves, every-implies, wider, names-waiting, loads}
 use Rattle.coder.proofs.RunLaws.{closed-code, low-written, code-stands, behind-unread, loads-around}
 
 -- ---- 1. Running the code of a tree, by the player's own definition, from any registers leaves in the target exactly what
@@ -109,32 +108,23 @@ module _ (h : Tree) (c : List Frame) where
     after = rw is-behind (loads-around (λ g. not (m g)) h c 0 q .behind);
   }
 
--- the same of the node at a position
-module _ (t : Tree) (p : ℕ) (lt : p < size t) where
-  pub closed-run-at : ClosedRun (code t 0) (runFirst (locate t [] p .part) (locate t [] p .above)) (runCount (locate t [] p .part) (locate t [] p .above)) (codePlace (locate t [] p .part) (locate t [] p .above) 0 .target)
-  closed-run-at = rw (located-whole t p lt) at (closed-run (locate t [] p .part) (locate t [] p .above))
-
-  pub loads-apart-at : (m : ℕ → Bool) → Over m (locate t [] p .part) → OverAbove (λ g. not (m g)) (locate t [] p .above)
-      → LoadsApart m (code t 0) (runFirst (locate t [] p .part) (locate t [] p .above)) (runCount (locate t [] p .part) (locate t [] p .above))
-  loads-apart-at m a b = rw (located-whole t p lt) at (loads-apart (locate t [] p .part) (locate t [] p .above) m a b)
-
 -- ---- What the player makes of the code of a tree within the limit: no fault 22 or 23, and the lamps lit are those that the
 -- tree selects in the rig of the patch.
 module _ (t : Tree) (h : size t ≤ mostNodes) (patch lamps : List ℕ) where
-  pub code-faultless : fault (codeNumbers t) patch lamps ≡ cond (ltb (length lamps) byteCount) 21 (cond (wrongPairCount (length patch)) 24 (cond (wrongPatch patch) 25 0))
+  pub code-faultless : playFault (codeNumbers t) patch lamps ≡ cond (ltb (length lamps) byteCount) 21 (cond (wrongPairCount (length patch)) 24 (cond (wrongPatch patch) 25 0))
   code-faultless =
       numbers-fault (code t 0) (omega (arith, size-positive t, length-code t 0)) (omega (arith, length-code t 0)) patch lamps (code-well-formed t h)
 
-  pub code-answers : answer (rig patch) (instructions (codeNumbers t)) ≡ selected (rig patch) t
+  pub code-answers : litLamps (rig patch) (instructions (codeNumbers t)) ≡ selected (rig patch) t
   code-answers = rw (instructions-numbers (code t 0)) (code-selects (rig patch) t 0 _)
 
-  pub record Lights (r : Played) (after : List ℕ) : Type 0 where
+  pub record PlaysAs (r : Played) (after : List ℕ) : Type 0 where
     pub done : r ≡ Done
     pub lit : after ≡ bytes (selected (rig patch) t) ++ drop byteCount lamps
 
   pub code-lights : byteCount ≤ length lamps → wrongPairCount (length patch) ≡ false → wrongPatch patch ≡ false
-      → (r : Played) (after : List ℕ) → Plays (codeNumbers t) patch lamps r after → Lights r after
+      → (r : Played) (after : List ℕ) → Plays (codeNumbers t) patch lamps r after → PlaysAs r after
   code-lights long even good r after p = record {
-    done = p .answered ∙ rw (code-faultless, le-ltb (length lamps) byteCount long, even, good);
+    done = plays-done p (code-faultless ∙ rw (le-ltb (length lamps) byteCount long, even, good));
     lit = p .written ∙ rw (code-faultless, le-ltb (length lamps) byteCount long, even, good, code-answers);
   }

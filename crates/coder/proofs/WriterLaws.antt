@@ -6,16 +6,16 @@ use Prim.Native.Nat.{ℕ, suc, _+_, _-_, _*_, _≤_, _<_}
 use native.Mathlib.Omega.{arith}
 use lib.ListN.{length, getD, set, length-set}
 use Rattle.tree.specs.Tree.{Operator, union, difference, Tree, leaf, node, sign, size}
-use Rattle.tree.specs.Writing.{Wrote}
+use Rattle.tree.specs.InnerWriting.{Wrote}
 use Rattle.tree.proofs.TreeLaws.{size-positive, group-most}
 use Rattle.tree.proofs.PartLaws.{part-leaf, part-node}
 use Rattle.tree.proofs.WritingLaws.{wrote-then, wrote-as}
 use Rattle.player.specs.Limits.{registerCount}
 use Rattle.player.specs.Instructions.{loadKind, addKind, cutKind, numbersOf}
-use Rattle.coder.specs.Need.{need, leftFirst, first, second}
-use Rattle.coder.specs.Code.{operationKind, code}
-use Rattle.coder.specs.Notes.{NodeAt, middle, leftIsFirst, Inner, Ordered, Writable}
-use Rattle.coder.proofs.NeedLaws.{need-node, need-positive}
+use Rattle.coder.specs.Need.{need, leftFirst}
+use Rattle.coder.proofs.NeedLaws.{first, second, need-node, need-positive}
+use Rattle.coder.specs.InnerNotes.{operationKind, NodeAt, middle, leftIsFirst, HasChildren, ChildrenInOrder, Writable}
+use Rattle.coder.specs.Code.{code}
 use Rattle.coder.proofs.CodeLaws.{size-node, length-numbers, numbers-leaf, numbers-node}
 use Rattle.coder.proofs.NoteLaws.{as-leaf, node-inside, Split, split}
 
@@ -43,7 +43,7 @@ module _ (l : List ℕ) (e k : ℕ) where
   writes-leaf lt w a v = let z = as-leaf a v lt in wrote-as w (sym (ap (λ (t : Tree). numbersOf (code t k)) (z .1) ∙ numbers-leaf _ (z .0) k))
 
 -- ---- a node's children, in the order of their code
-module _ {l s n : List ℕ} {e k : ℕ} {o : Operator} {x y : Tree} {v : NodeAt l e (node o x y)} (S : Split l s n e o x y v) {one two a b : ℕ} (O : Ordered s n e k one two a b) where
+module _ {l s n : List ℕ} {e k : ℕ} {o : Operator} {x y : Tree} {v : NodeAt l e (node o x y)} (S : Split l s n e o x y v) {one two a b : ℕ} (O : ChildrenInOrder s n e k one two a b) where
   node-one : NodeAt l one (first x y)
   node-one = rw (O .one, S .order) (go (leftFirst x y))
     where
@@ -88,17 +88,17 @@ module _ {l s n : List ℕ} {e k : ℕ} {out : List ℕ} {at : ℕ} (W : Writabl
   leaf-room = omega (arith, W .room, size-positive (W .part))
 
   module _ (le : sign union ≤ getD l e 0) where
-    pub inner-node : Inner s e × (k + 1 < registerCount)
+    pub inner-node : HasChildren s e × (k + 1 < registerCount)
     inner-node = go (W .part) (W .root) (W .registers)
       where
-        go : (a : Tree) → NodeAt l e a → k + need a ≤ registerCount → Inner s e × (k + 1 < registerCount)
+        go : (a : Tree) → NodeAt l e a → k + need a ≤ registerCount → HasChildren s e × (k + 1 < registerCount)
         go (leaf g h) v r = absurd (omega (arith, part-leaf e (v .is), group-most g h))
         go (node o x y) v r = (
           split v (W .noted .all) (omega (arith, end-inside)) .inner (omega (arith, end-inside, W .noted .few)),
           omega (arith, need-node o x y, need-positive (second x y)),
         )
 
-    pub ready : {one two a b : ℕ} → Ordered s n e k one two a b → Ready l s n e k out at one two
+    pub ready : {one two a b : ℕ} → ChildrenInOrder s n e k one two a b → Ready l s n e k out at one two
     ready {one} {two} {a} {b} O = go (W .part) (W .root) (W .registers) (W .room)
       where
         go : (a : Tree) → NodeAt l e a → k + need a ≤ registerCount → at + 4 * size a ≤ length out → Ready l s n e k out at one two
@@ -126,7 +126,7 @@ module _ {l s n : List ℕ} {e k : ℕ} {out : List ℕ} {at : ℕ} (W : Writabl
                   omega (arith, f .ends, f .same, g .ends, g .same, length-numbers (first x y) k, length-numbers (second x y) (k + 1));
             }
 
-    pub writes-node : {one two a b kind next last after : ℕ} {out₁ out₂ out₃ : List ℕ} → Ordered s n e k one two a b
+    pub writes-node : {one two a b kind next last after : ℕ} {out₁ out₂ out₃ : List ℕ} → ChildrenInOrder s n e k one two a b
         → Writes l one k out at out₁ next → Writes l two (k + 1) out₁ next out₂ last
         → ((o : Operator) → getD l e 0 ≡ sign o → kind ≡ operationKind o) → Wrote out₂ last out₃ after (kind ∷ k ∷ a ∷ b ∷ [])
         → Writes l e k out at out₃ after

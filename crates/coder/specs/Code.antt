@@ -5,17 +5,13 @@ use Prim.Native.Nat.{ℕ, _+_}
 use lib.ListN.{length}
 use Rattle.tree.specs.Tree.{Operator, union, difference, Tree, node}
 use Rattle.tree.specs.Context.{Side, left, right, Frame, frame, sided}
-use Rattle.player.specs.Instructions.{Instruction, load, add, cut, addKind, cutKind, numbersOf}
+use Rattle.player.specs.Instructions.{Instruction, load, add, cut}
 use Rattle.coder.specs.Need.{leftFirst, inOrder}
 
+-- "ADD (2) target, s, t: union of registers s and t. CUT (3) target, s, t: s without t"
 abbrev pub operation : Operator → ℕ → ℕ → ℕ → Instruction
 operation union = add
 operation difference = cut
-
--- the kind of that instruction
-abbrev pub operationKind : Operator → ℕ
-operationKind union = addKind
-operationKind difference = cutKind
 
 -- "then ADD or CUT with target r, left operand's register, right operand's": r of the first child, r+1 of the second;
 -- f says whether the left child came first
@@ -26,10 +22,6 @@ combine r o f = operation o r (cond f r (r + 1)) (cond f (r + 1) r)
 unfoldable pub code : Tree → ℕ → List Instruction
 code t r = inOrder (λ r g. load r g ∷ []) (λ r o f x y. x ++ (y ++ (combine r o f ∷ []))) r t
 
--- "The root's target is 0": the numbers of a tree's code, four for each instruction
-abbrev pub codeNumbers : Tree → List ℕ
-codeNumbers t = numbersOf (code t 0)
-
 -- Of a part's code in the code of the whole tree: what stands before it, its target, and what stands behind it.
 pub record CodePlace : Type 0 where
   pub before : List Instruction
@@ -39,18 +31,12 @@ pub record CodePlace : Type 0 where
 -- Of the child that comes first and of the other one, from the place of the parent's code: f says whether the left child
 -- comes first, o is the parent's operator and b the child's sibling.
 abbrev pub placeOfFirst : Bool → Operator → Tree → CodePlace → CodePlace
-placeOfFirst f o b P = record {
-  before = P .before;
-  target = P .target;
-  behind = code b (P .target + 1) ++ (combine (P .target) o f ∷ P .behind);
-}
+placeOfFirst f o b P =
+    record { before = P .before; target = P .target; behind = code b (P .target + 1) ++ (combine (P .target) o f ∷ P .behind) }
 
 abbrev pub placeOfSecond : Bool → Operator → Tree → CodePlace → CodePlace
-placeOfSecond f o b P = record {
-  before = P .before ++ code b (P .target);
-  target = P .target + 1;
-  behind = combine (P .target) o f ∷ P .behind;
-}
+placeOfSecond f o b P =
+    record { before = P .before ++ code b (P .target); target = P .target + 1; behind = combine (P .target) o f ∷ P .behind }
 
 -- the left child comes first if f is true
 abbrev pub placeOfChild : Side → Bool → Operator → Tree → CodePlace → CodePlace

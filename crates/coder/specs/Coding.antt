@@ -2,11 +2,13 @@
 use mathlib.Core.Path.{_≡_}
 use mathlib.Core.Bool.{cond}
 use mathlib.Core.Option.{Option, some, none}
-use mathlib.Core.List.{List, []}
+use mathlib.Core.List.{List, [], _∷_}
 use Prim.Native.Nat.{ℕ}
 use lib.Dec.{eqb, ltb}
 use lib.ListN.{length}
+use Rattle.common.specs.Answer.{Answer, done, refusedWith, answerBy}
 use Rattle.tree.specs.Tree.{Tree, size}
+use Rattle.tree.specs.Context.{Place}
 use Rattle.tree.specs.Parse.{treeOf, isSome, locate}
 use Rattle.tree.specs.Writing.{over}
 use Rattle.player.specs.Instructions.{Instruction, numbersOf}
@@ -19,47 +21,34 @@ use Rattle.coder.specs.declared.Run.{Run}
 abbrev pub leastBuffer : ℕ
 leastBuffer = 32764
 
--- 01's number and value of each answer: 0 and the number of instructions; or the fault's number and none
-abbrev pub number : Coded → ℕ
-number (Done n) = 0
-number (Refused k) = k
-
-abbrev pub count : Coded → ℕ
-count (Done n) = n
-count (Refused k) = 0
-
 -- "It refuses, buffer unchanged: 20 ..; 12": the number of the first fault, 0 where there is none
-abbrev pub fault : (tree out : List ℕ) → ℕ
-fault tree out = cond (ltb (length out) leastBuffer) 20 (cond (isSome (treeOf tree)) 0 12)
+abbrev pub encodeFault : (tree out : List ℕ) → ℕ
+encodeFault tree out = cond (ltb (length out) leastBuffer) 20 (cond (isSome (treeOf tree)) 0 12)
 
 -- the code that the list asks for
-abbrev pub codeOf : Option Tree → List Instruction
-codeOf none = []
-codeOf (some t) = code t 0
+abbrev pub codeOfList : Option Tree → List Instruction
+codeOfList none = []
+codeOfList (some t) = code t 0
 
--- "Coding answers the number of instructions, one per node, and writes nothing past the last."
-abbrev pub reply : (tree out : List ℕ) → Coded
-reply tree out = cond (eqb (fault tree out) 0) (Done (length (codeOf (treeOf tree)))) (Refused (fault tree out))
-
+-- the buffer afterwards: done, the numbers of the code, and behind them what stood there; refused, "buffer unchanged"
 abbrev pub bufferAfter : (tree out : List ℕ) → List ℕ
-bufferAfter tree out = cond (eqb (fault tree out) 0) (over (numbersOf (codeOf (treeOf tree))) out) out
+bufferAfter tree out = cond (eqb (encodeFault tree out) 0) (over (numbersOf (codeOfList (treeOf tree))) out) out
 
--- What a call answers, and what the buffer is afterwards.
+-- 01's number and value for each answer: "Coding answers the number of instructions"; or the fault's number
+abbrev pub codedSays : Coded → Answer
+codedSays (Done n) = done (n ∷ [])
+codedSays (Refused k) = refusedWith k
+
+-- What a call answers, and what the buffer is afterwards: "one per node, and writes nothing past the last"
 pub record Encodes (tree out : List ℕ) (r : Coded) (after : List ℕ) : Type 0 where
-  pub numbered : number r ≡ fault tree out
-  pub counted : count r ≡ cond (eqb (fault tree out) 0) (length (codeOf (treeOf tree))) 0
-  pub answered : r ≡ reply tree out
+  pub says : codedSays r ≡ answerBy (encodeFault tree out) (length (codeOfList (treeOf tree)) ∷ [])
   pub written : after ≡ bufferAfter tree out
 
--- The run of the node at a position: first instruction from 1, and count; 0 and 0 where there is no such node.
-abbrev pub firstFor : Option Tree → ℕ → ℕ
-firstFor none p = 0
-firstFor (some t) p = cond (ltb p (size t)) (runFirst (locate t [] p .part) (locate t [] p .above)) 0
+-- "the run's first instruction from 1, and its length", of a node's part and its context
+abbrev pub runAt : Place → Run
+runAt s = record { first = runFirst (s .part) (s .above); count = runCount (s .part) (s .above) }
 
-abbrev pub countFor : Option Tree → ℕ → ℕ
-countFor none p = 0
-countFor (some t) p = cond (ltb p (size t)) (runCount (locate t [] p .part) (locate t [] p .above)) 0
-
-pub record IsRun (tree : List ℕ) (position : ℕ) (r : Run) : Type 0 where
-  pub first : r .first ≡ firstFor (treeOf tree) position
-  pub count : r .count ≡ countFor (treeOf tree) position
+-- what `run_of` answers for the node at a position; 0 and 0 where there is no such node
+abbrev pub runOf : Option Tree → ℕ → Run
+runOf none p = record { first = 0; count = 0 }
+runOf (some t) p = cond (ltb p (size t)) (runAt (locate t [] p)) (record { first = 0; count = 0 })

@@ -2,4 +2,4 @@ pub mod Need
 pub mod Code
 pub mod Effects
 pub mod Coding
-pub mod Notes
+pub mod InnerNotes

@@ -18,12 +18,6 @@ need (node o l r) = needOf (need l) (need r)
 abbrev pub leftFirst : Tree → Tree → Bool
 leftFirst l r = leb (need r) (need l)
 
-abbrev pub first : Tree → Tree → Tree
-first l r = cond (leftFirst l r) l r
-
-abbrev pub second : Tree → Tree → Tree
-second l r = cond (leftFirst l r) r l
-
 -- The order of nodes: the first child's, the second's, the node itself. What a device makes of it is a value for each
 -- node: of a leaf, by how many operands wait already and the group; of another node, by how many wait, the operator,
 -- whether the left child came first, and the values of the first child and, with one operand more waiting, of the second.

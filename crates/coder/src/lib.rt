@@ -10,13 +10,13 @@ ghost use Prim.Native.Nat.{_+_, _<_, _≤_};
 ghost use lib.ListN.{length};
 ghost use Rattle.tree.specs.Tree.{Operator, Tree, sign, mostNodes};
 ghost use Rattle.tree.specs.Parse.{treeOf, isSome, locate};
-ghost use Rattle.tree.specs.Writing.{Wrote};
+ghost use Rattle.tree.specs.InnerWriting.{Wrote};
 ghost use Rattle.player.specs.Limits.{registerCount};
 ghost use Rattle.player.specs.Instructions.{numbersOf};
 ghost use Rattle.coder.specs.Need.{needOf};
-ghost use Rattle.coder.specs.Code.{operationKind, code as codeOf, runFirst};
-ghost use Rattle.coder.specs.Coding.{Encodes, IsRun};
-ghost use Rattle.coder.specs.Notes.{NodeAt, Noted, Inner, Ordered, Stepped, Writable};
+ghost use Rattle.coder.specs.InnerNotes.{operationKind, NodeAt, Noted, HasChildren, ChildrenInOrder, StepsDown, Writable};
+ghost use Rattle.coder.specs.Code.{code as codeOf, runFirst};
+ghost use Rattle.coder.specs.Coding.{Encodes, runOf};
 
 // Four numbers for each of 8,191 instructions.
 pub const LEAST_BUFFER: usize = 32764;
@@ -25,13 +25,6 @@ pub const LEAST_BUFFER: usize = 32764;
 pub const SHORT_BUFFER: u16 = 20;
 
 pub const NOT_A_TREE: u16 = 12;
-
-// 01's kinds of instruction.
-const LOAD: u16 = 1;
-
-const ADD: u16 = 2;
-
-const CUT: u16 = 3;
 
 // The answer of `encode`: the number of instructions, or the number of the first fault.
 pub enum Coded {
@@ -101,8 +94,8 @@ fn children_of(
     end: usize,
     target: u16,
 ) -> Children
-    requires { ⌜ Inner (now starts) end × (target < registerCount) ⌝ }
-    ensures { λ r. ⌜ Ordered (now (starts .entry)) (now (needs .entry)) end target (r .first) (r .second) (r .left) (r .right) ⌝ }
+    requires { ⌜ HasChildren (now starts) end × (target < registerCount) ⌝ }
+    ensures { λ r. ⌜ ChildrenInOrder (now (starts .entry)) (now (needs .entry)) end target (r .first) (r .second) (r .left) (r .right) ⌝ }
 {
     let right = end - 1;
     let left = (starts[right] as usize) - 1;
@@ -139,7 +132,11 @@ fn put(out: &mut [u16], at: usize, kind: u16, target: u16, s: u16, t: u16) -> us
 fn kind_of(x: u16) -> u16
     ensures { λ r. ⌜ ((o : Operator) → x ≡ sign o → r ≡ operationKind o) ⌝ }
 {
-    if x == tree::UNION { ADD } else { CUT }
+    if x == tree::UNION {
+        player::ADD
+    } else {
+        player::CUT
+    }
 }
 
 // Writes the code of the node at `end` from index `at` on, and returns the index after it.
@@ -157,7 +154,7 @@ fn write_node(
 {
     let x = tree[end];
     if x < tree::UNION {
-        return put(out, at, LOAD, target, x, 0);
+        return put(out, at, player::LOAD, target, x, 0);
     }
     let c = children_of(starts, needs, end, target);
     let other = target + 1;
@@ -190,8 +187,8 @@ fn step_down(
     end: usize,
     position: usize,
 ) -> Below
-    requires { ⌜ Inner (now starts) end ⌝ }
-    ensures { λ r. ⌜ Stepped (now (starts .entry)) (now (needs .entry)) end position (r .end) (r .before) ⌝ }
+    requires { ⌜ HasChildren (now starts) end ⌝ }
+    ensures { λ r. ⌜ StepsDown (now (starts .entry)) (now (needs .entry)) end position (r .end) (r .before) ⌝ }
 {
     let middle = starts[end - 1] as usize;
     let left = middle - 1;
@@ -241,7 +238,7 @@ fn first_of(
 
 // The run of the node at `position` in the code of the whole tree: 0 and 0 where the list is no tree or has no such node.
 pub fn run_of(tree: &[u16], position: usize) -> Run
-    ensures { λ r. ⌜ IsRun (now (tree .entry)) position r ⌝ }
+    ensures { λ r. ⌜ r ≡ runOf (treeOf (now (tree .entry))) position ⌝ }
 {
     if tree.len() <= position {
         return Run { first: 0, count: 0 };

@@ -6,8 +6,6 @@ use coder::Coded;
 
 const BEFORE: u16 = 60000;
 
-const LOAD: u16 = 1;
-
 // 01's number of an answer, 0 if done.
 fn number(answer: Coded) -> u64 {
     match answer {
@@ -52,7 +50,7 @@ fn higher(high: u16, kind: u16, target: u16, s: u16, t: u16) -> u16 {
     if kind == BEFORE {
         return high;
     }
-    if kind == LOAD {
+    if kind == player::LOAD {
         return larger(high, target);
     }
     larger(larger(high, target), larger(s, t))

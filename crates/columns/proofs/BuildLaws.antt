@@ -12,17 +12,17 @@ use lib.Pow.{pow-mono}
 use lib.Dec.{ltb}
 use borrow.Author.Tests.{lt-ltb, le-ltb, ltb-true, ltb-false}
 use lib.ListN.{length, getD, List·getD-eq-default}
-use Rattle.tree.specs.Tree.{Operator, union, difference, sign, Tree, isGroup, postfix, isIn}
-use Rattle.tree.specs.Writing.{Wrote}
+use Rattle.tree.specs.Tree.{Operator, union, difference, sign, Tree, isGroup, postfix, isIn, mostGroups}
+use Rattle.tree.specs.InnerWriting.{Wrote}
 use Rattle.tree.proofs.TreeLaws.{postfix-length, size-positive}
 use Rattle.tree.proofs.GroupLaws.{is-in-here}
 use Rattle.tree.proofs.WritingLaws.{wrote-as}
-use Rattle.table.specs.Table.{mostGroups, rowCount, rowsOf}
-use Rattle.builder.specs.Building.{postfixOptional, sizeOptional, join, single, expand, between, Segment, Emitted}
+use Rattle.table.specs.InnerTable.{rowCount, rowsOf}
+use Rattle.builder.specs.InnerBuilding.{postfixOptional, sizeOptional, join, single, expand, between, Segment, Emitted}
 use Rattle.builder.proofs.BuildingLaws.{single-leaf}
 use Rattle.builder.proofs.EmitLaws.{optional-length, wrote-join}
-use Rattle.columns.specs.Joining.{varies, removedTree, removedHolder, keptTree, keptHolder, nestedTree, nestedHolder, columnsTree, columnsHolder, constantTree, constantHolder}
-use Rattle.columns.specs.Choosing.{firstFailing, failing, settled, choice}
+use Rattle.columns.specs.InnerJoining.{varies, removedTree, removedHolder, keptTree, keptHolder, nestedTree, nestedHolder, columnsTree, columnsHolder, constantTree, constantHolder}
+use Rattle.columns.specs.InnerChoosing.{firstFailing, failing, settled, choice}
 use Rattle.columns.specs.Inner.{Scanned, Room, Some, Ready, Joined}
 use Rattle.columns.specs.declared.Choice.{Choice}
 use Rattle.columns.specs.declared.Choice.the-variants.{Constant}
@@ -229,33 +229,23 @@ module _ (Ta : ℕ → Bool) {ms us : List ℕ} {w columns low high start room :
   joined-kept e f j =
       rw (e, f) (subst (λ (x : ℕ). Joined (keptTree Ta ms us x low high start) (keptHolder Ta ms us x low high start) out out′ n h) (r .width) j)
 
-  pub joined-nested : (d : ℕ → Bool) → ((i : ℕ) → d i ≡ varies Ta w low i) → Ta start ≡ false → Ta high ≡ false
-      → Joined (nestedTree Ta ms us d w high start) (nestedHolder Ta ms us d w high start) out out′ n h
+  pub joined-nested : Ta start ≡ false → Ta high ≡ false → Joined (nestedTree Ta ms us w low high start) (nestedHolder Ta ms us w low high start) out out′ n h
       → Joined (columnsTree Ta ms us low high start) (columnsHolder Ta ms us low high start) out out′ n h
-  joined-nested d v e f j =
-      let q : d ≡ varies Ta w low = fun-ext v in
-      let k : Joined (nestedTree Ta ms us (varies Ta w low) w high start) (nestedHolder Ta ms us (varies Ta w low) w high start) out out′ n h
-      = subst (λ (x : ℕ → Bool). Joined (nestedTree Ta ms us x w high start) (nestedHolder Ta ms us x w high start) out out′ n h) q j in
-      rw (e, f) (subst (λ (x : ℕ). Joined (nestedTree Ta ms us (varies Ta x low) x high start) (nestedHolder Ta ms us (varies Ta x low) x high start) out out′ n h) (r .width) k)
+  joined-nested e f j =
+      rw (e, f) (subst (λ (x : ℕ). Joined (nestedTree Ta ms us x low high start) (nestedHolder Ta ms us x low high start) out out′ n h) (r .width) j)
 
--- the same room for the row 0
-pub room-zero : {ms us : List ℕ} {w columns low high start room : ℕ} → Room ms us w columns low high start room → Room ms us w columns 0 high start room
-room-zero r = record {
-  width = r .width;
-  count = r .count;
-  most = r .most;
-  divides = r .divides;
-  low-below = omega (arith, r .low-below);
-  high-below = r .high-below;
-  inside = r .inside;
-  mark-groups = r .mark-groups;
-  other-groups = r .other-groups;
-  some-mark = r .some-mark;
-  space = r .space;
-}
+-- ---- D by its table d
+module _ (Ta d : ℕ → Bool) (w low high : ℕ) (us : List ℕ) (v : (i : ℕ) → d i ≡ varies Ta w low i) where
+  pub some-varying : Some (expand (varies Ta w low) high w us) → Some (expand d high w us)
+  some-varying s = subst (λ (x : ℕ → Bool). Some (expand x high w us)) (sym (fun-ext v)) s
 
-pub some-as : (Ta d : ℕ → Bool) (w low high : ℕ) (us : List ℕ) → ((i : ℕ) → d i ≡ varies Ta w low i) → Some (expand (varies Ta w low) high w us) → Some (expand d high w us)
-some-as Ta d w low high us v s = subst (λ (x : ℕ → Bool). Some (expand x high w us)) (sym (fun-ext v)) s
+  pub joined-varying : (start : ℕ) (ms : List ℕ) {out out′ : List ℕ} {n h : ℕ}
+      → Joined (join difference (expand Ta high w us) (join difference (expand d high w us) (expand Ta start 1 ms)))
+      (sizeOptional (expand Ta high w us) + sizeOptional (expand d high w us) + sizeOptional (expand Ta start 1 ms) - 1) out out′ n h
+      → Joined (nestedTree Ta ms us w low high start) (nestedHolder Ta ms us w low high start) out out′ n h
+  joined-varying start ms {out} {out′} {n} {h} j =
+      subst (λ (x : ℕ → Bool). Joined (join difference (expand Ta high w us) (join difference (expand x high w us) (expand Ta start 1 ms)))
+      (sizeOptional (expand Ta high w us) + sizeOptional (expand x high w us) + sizeOptional (expand Ta start 1 ms) - 1) out out′ n h) (fun-ext v) j
 
 pub room-for : {Ta : ℕ → Bool} {ms us : List ℕ} {w columns low high start room : ℕ} → Room ms us w columns 0 0 0 room → Ready Ta ms us w low high start → Room ms us w columns low high start room
 room-for {Ta} {ms} {us} {w} {columns} r s = record {

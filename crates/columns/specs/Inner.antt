@@ -6,10 +6,11 @@ use mathlib.Core.Option.{Option, some}
 use Prim.Native.Nat.{ℕ, _+_, _*_, _^_, _<_, _≤_}
 use lib.ListN.{length}
 use Rattle.tree.specs.Tree.{Tree, isGroup, isIn}
-use Rattle.tree.specs.Writing.{Wrote}
-use Rattle.table.specs.Table.{rowCount}
-use Rattle.builder.specs.Building.{postfixOptional, expand, mostExpanded}
-use Rattle.columns.specs.Joining.{varies}
+use Rattle.tree.specs.InnerWriting.{Wrote}
+use Rattle.table.specs.InnerTable.{rowCount, rowsOf}
+use Rattle.builder.specs.InnerBuilding.{postfixOptional, expand, mostExpanded}
+use Rattle.columns.specs.InnerJoining.{varies, removedTree, removedHolder, keptTree, keptHolder, nestedTree, nestedHolder, columnsTree, columnsHolder, constantTree, constantHolder}
+use Rattle.columns.specs.declared.Built.{Built}
 use Rattle.columns.specs.declared.Choice.{Choice}
 use Rattle.columns.specs.declared.Choice.the-variants.{Never, Constant, Columns}
 
@@ -50,12 +51,39 @@ pub record Ready (T : ℕ → Bool) (ms us : List ℕ) (w low high start : ℕ) 
   pub high-below : high < w
   pub inside : start + w ≤ w * 2 ^ length us
 
+-- the same for each choice
 abbrev pub ReadyFor : (ℕ → Bool) → List ℕ → List ℕ → ℕ → Choice → Type 0
 ReadyFor T ms us w Never = Unit {0}
 ReadyFor T ms us w Constant = Unit {0}
 ReadyFor T ms us w (Columns low high start) = Ready T ms us w low high start
 
--- a tree and its holder's position were written
-pub record Joined (o : Option Tree) (holder : ℕ) (out out′ : List ℕ) (count at : ℕ) : Type 0 where
-  pub wrote : Wrote out 0 out′ count (postfixOptional o)
-  pub held : at ≡ holder
+-- ---- what the builders leave
+-- a tree was written from the buffer's front on; its nodes and its holder's position are answered
+pub record Joined (o : Option Tree) (position : ℕ) (out out′ : List ℕ) (nodes holder : ℕ) : Type 0 where
+  pub wrote : Wrote out 0 out′ nodes (postfixOptional o)
+  pub held : holder ≡ position
+
+module _ (t : List Bool) (marks others : List ℕ) where
+  module _ (w low high start : ℕ) (out out′ : List ℕ) (r : Built) where
+    -- A ∪ (B − h), by the table t
+    abbrev pub RemovedBuilt : Type 0
+    RemovedBuilt =
+        Joined (removedTree (rowsOf t) marks others w low high start) (removedHolder (rowsOf t) marks others w low high start) out out′ (r .nodes) (r .holder)
+
+    -- A ∪ (h − B)
+    abbrev pub KeptBuilt : Type 0
+    KeptBuilt = Joined (keptTree (rowsOf t) marks others w low high start) (keptHolder (rowsOf t) marks others w low high start) out out′ (r .nodes) (r .holder)
+
+    -- B − (D − h)
+    abbrev pub NestedBuilt : Type 0
+    NestedBuilt =
+        Joined (nestedTree (rowsOf t) marks others w low high start) (nestedHolder (rowsOf t) marks others w low high start) out out′ (r .nodes) (r .holder)
+
+  -- the one of these three that the table asks for
+  abbrev pub ColumnsBuilt : ℕ → ℕ → ℕ → List ℕ → List ℕ → Built → Type 0
+  ColumnsBuilt low high start out out′ r =
+      Joined (columnsTree (rowsOf t) marks others low high start) (columnsHolder (rowsOf t) marks others low high start) out out′ (r .nodes) (r .holder)
+
+  -- A ∪ (m − m), for constant columns
+  abbrev pub ConstantBuilt : List ℕ → List ℕ → Built → Type 0
+  ConstantBuilt out out′ r = Joined (constantTree (rowsOf t) marks others) (constantHolder (rowsOf t) marks others) out out′ (r .nodes) (r .holder)

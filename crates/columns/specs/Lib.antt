@@ -1,3 +1,3 @@
-pub mod Choosing
-pub mod Joining
+pub mod InnerChoosing
+pub mod InnerJoining
 pub mod Inner

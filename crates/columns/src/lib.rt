@@ -3,11 +3,12 @@
 ghost use mathlib.Core.Path.{_≡_};
 ghost use Prim.Native.Nat.{ℕ, _+_, _-_, _*_, _%_, _^_, _<_, _≤_};
 ghost use lib.ListN.{length};
-ghost use Rattle.table.specs.Table.{rowCount, mostGroups, rowsOf};
-ghost use Rattle.builder.specs.Building.{expand};
-ghost use Rattle.columns.specs.Choosing.{agrees, failing, settled, choice};
-ghost use Rattle.columns.specs.Joining.{varies, removedTree, removedHolder, keptTree, keptHolder, nestedTree, nestedHolder, columnsTree, columnsHolder, constantTree, constantHolder};
-ghost use Rattle.columns.specs.Inner.{Scanned, Room, Some, Ready, Joined};
+ghost use Rattle.table.specs.InnerTable.{rowCount, rowsOf};
+ghost use Rattle.tree.specs.Tree.{mostGroups};
+ghost use Rattle.builder.specs.InnerBuilding.{expand};
+ghost use Rattle.columns.specs.InnerChoosing.{agrees, failing, settled, choice};
+ghost use Rattle.columns.specs.InnerJoining.{varies};
+ghost use Rattle.columns.specs.Inner.{Scanned, Room, Some, Ready, ConstantBuilt, RemovedBuilt, KeptBuilt, NestedBuilt, ColumnsBuilt};
 use builder::emit;
 use builder::operate;
 use builder::put3;
@@ -109,9 +110,9 @@ pub fn choose(t: &[bool; ROWS], w: usize, total: usize) -> Choice
 
 // ---- the gathered tree
 
-// A tree's length, and its holder's position.
+// A tree's nodes, and its holder's position.
 pub struct Built {
-    pub length: usize,
+    pub nodes: usize,
     pub holder: usize,
 }
 
@@ -125,14 +126,14 @@ pub fn build_constant(
     out: &mut [u16],
 ) -> Built
     requires { ⌜ Room (now marks) (now others) w columns 0 0 0 (length (now out)) ⌝ }
-    ensures { λ r. ⌜ Joined (constantTree (rowsOf (now (t .entry))) (now (marks .entry)) (now (others .entry))) (constantHolder (rowsOf (now (t .entry))) (now (marks .entry)) (now (others .entry))) (now (out .entry)) (now (out .exit)) (r .length) (r .holder) ⌝ }
+    ensures { λ r. ⌜ ConstantBuilt (now (t .entry)) (now (marks .entry)) (now (others .entry)) (now (out .entry)) (now (out .exit)) r ⌝ }
 {
     let a = emit(t, 0, w, columns, others, 0, out, 0);
     let m = marks[0];
     let h = put3(out, a, m, m, tree::DIFFERENCE);
-    let length = operate(out, 0, a, h, tree::UNION);
+    let nodes = operate(out, 0, a, h, tree::UNION);
     Built {
-        length,
+        nodes,
         holder: h - 1,
     }
 }
@@ -151,15 +152,15 @@ fn build_removed(
 ) -> Built
     requires { ⌜ Room (now marks) (now others) w columns low high start (length (now out)) ⌝ }
     requires { ⌜ Some (expand (rowsOf (now t)) high w (now others)) ⌝ }
-    ensures { λ r. ⌜ Joined (removedTree (rowsOf (now (t .entry))) (now (marks .entry)) (now (others .entry)) w low high start) (removedHolder (rowsOf (now (t .entry))) (now (marks .entry)) (now (others .entry)) w low high start) (now (out .entry)) (now (out .exit)) (r .length) (r .holder) ⌝ }
+    ensures { λ r. ⌜ RemovedBuilt (now (t .entry)) (now (marks .entry)) (now (others .entry)) w low high start (now (out .entry)) (now (out .exit)) r ⌝ }
 {
     let a = emit(t, low, w, columns, others, 0, out, 0);
     let b = emit(t, high, w, columns, others, 0, out, a);
     let h = emit(t, start, 1, w, marks, 0, out, b);
     let inner = operate(out, a, b, h, tree::DIFFERENCE);
-    let length = operate(out, 0, a, inner, tree::UNION);
+    let nodes = operate(out, 0, a, inner, tree::UNION);
     Built {
-        length,
+        nodes,
         holder: h - 1,
     }
 }
@@ -178,15 +179,15 @@ fn build_kept(
 ) -> Built
     requires { ⌜ Room (now marks) (now others) w columns low high start (length (now out)) ⌝ }
     requires { ⌜ Some (expand (rowsOf (now t)) start 1 (now marks)) ⌝ }
-    ensures { λ r. ⌜ Joined (keptTree (rowsOf (now (t .entry))) (now (marks .entry)) (now (others .entry)) w low high start) (keptHolder (rowsOf (now (t .entry))) (now (marks .entry)) (now (others .entry)) w low high start) (now (out .entry)) (now (out .exit)) (r .length) (r .holder) ⌝ }
+    ensures { λ r. ⌜ KeptBuilt (now (t .entry)) (now (marks .entry)) (now (others .entry)) w low high start (now (out .entry)) (now (out .exit)) r ⌝ }
 {
     let a = emit(t, low, w, columns, others, 0, out, 0);
     let h = emit(t, start, 1, w, marks, 0, out, a);
     let b = emit(t, high, w, columns, others, 0, out, h);
     let inner = operate(out, a, h, b, tree::DIFFERENCE);
-    let length = operate(out, 0, a, inner, tree::UNION);
+    let nodes = operate(out, 0, a, inner, tree::UNION);
     Built {
-        length,
+        nodes,
         holder: h - 1,
     }
 }
@@ -209,30 +210,32 @@ fn varying(t: &[bool; ROWS], w: usize, low: usize) -> [bool; ROWS]
     d
 }
 
-// B - (D - h), d the table of D.
+// B - (D - h), D the columns that are not constant.
 fn build_nested(
     t: &[bool; ROWS],
-    d: &[bool; ROWS],
     marks: &[u16],
     others: &[u16],
     w: usize,
     columns: usize,
+    low: usize,
     high: usize,
     start: usize,
     out: &mut [u16],
 ) -> Built
-    requires { ⌜ Room (now marks) (now others) w columns 0 high start (length (now out)) ⌝ }
+    requires { ⌜ Room (now marks) (now others) w columns low high start (length (now out)) ⌝ }
     requires { ⌜ Some (expand (rowsOf (now t)) high w (now others)) ⌝ }
-    requires { ⌜ Some (expand (rowsOf (now d)) high w (now others)) ⌝ }
-    ensures { λ r. ⌜ Joined (nestedTree (rowsOf (now (t .entry))) (now (marks .entry)) (now (others .entry)) (rowsOf (now (d .entry))) w high start) (nestedHolder (rowsOf (now (t .entry))) (now (marks .entry)) (now (others .entry)) (rowsOf (now (d .entry))) w high start) (now (out .entry)) (now (out .exit)) (r .length) (r .holder) ⌝ }
+    requires { ⌜ Some (expand (varies (rowsOf (now t)) w low) high w (now others)) ⌝ }
+    requires { ⌜ length (now t) ≤ rowCount ⌝ }
+    ensures { λ r. ⌜ NestedBuilt (now (t .entry)) (now (marks .entry)) (now (others .entry)) w low high start (now (out .entry)) (now (out .exit)) r ⌝ }
 {
+    let d = varying(t, w, low);
     let b = emit(t, high, w, columns, others, 0, out, 0);
-    let e = emit(d, high, w, columns, others, 0, out, b);
+    let e = emit(&d, high, w, columns, others, 0, out, b);
     let h = emit(t, start, 1, w, marks, 0, out, e);
     let inner = operate(out, b, e, h, tree::DIFFERENCE);
-    let length = operate(out, 0, b, inner, tree::DIFFERENCE);
+    let nodes = operate(out, 0, b, inner, tree::DIFFERENCE);
     Built {
-        length,
+        nodes,
         holder: h - 1,
     }
 }
@@ -252,7 +255,7 @@ pub fn build_columns(
     requires { ⌜ Room (now marks) (now others) w columns low high start (length (now out)) ⌝ }
     requires { ⌜ Ready (rowsOf (now t)) (now marks) (now others) w low high start ⌝ }
     requires { ⌜ length (now t) ≤ rowCount ⌝ }
-    ensures { λ r. ⌜ Joined (columnsTree (rowsOf (now (t .entry))) (now (marks .entry)) (now (others .entry)) low high start) (columnsHolder (rowsOf (now (t .entry))) (now (marks .entry)) (now (others .entry)) low high start) (now (out .entry)) (now (out .exit)) (r .length) (r .holder) ⌝ }
+    ensures { λ r. ⌜ ColumnsBuilt (now (t .entry)) (now (marks .entry)) (now (others .entry)) low high start (now (out .entry)) (now (out .exit)) r ⌝ }
 {
     let held = t[start];
     if held {
@@ -262,6 +265,5 @@ pub fn build_columns(
     if sometimes {
         return build_kept(t, marks, others, w, columns, low, high, start, out);
     }
-    let d = varying(t, w, low);
-    build_nested(t, &d, marks, others, w, columns, high, start, out)
+    build_nested(t, marks, others, w, columns, low, high, start, out)
 }

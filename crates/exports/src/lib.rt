@@ -1,19 +1,29 @@
 // The calls for programs in other languages, for tests and measurements: a slice passes as a pointer and a length, and an
 // answer as numbers: 01's number first (0 for done), then the values of the answer (0 where refused).
+ghost use mathlib.Core.Path.{_≡_};
+ghost use mathlib.Core.List.{[], _∷_};
+ghost use Prim.Native.Nat.{_%_};
+ghost use lib.ListN.{set};
+ghost use lib.Seq.{sets};
+ghost use Rattle.exports.specs.Storing.{LiftCall, GatherCall, EncodeCall, PlayCall};
 use coder::Coded;
 use gather::Gathering;
 use lift::Lifted;
 use player::Played;
 
 // Stores a number of an answer, where the array has that place.
-fn store(answer: &mut [u32], i: usize, value: usize) {
+fn store(answer: &mut [u32], i: usize, value: usize)
+    ensures { λ r. ⌜ now (answer .exit) ≡ set (now (answer .entry)) i (value % 4294967296) ⌝ }
+{
     if i < answer.len() {
         answer[i] = (value % 4294967296) as u32;
     }
 }
 
-// Stores an answer of up to four numbers.
-fn store_all(answer: &mut [u32], number: usize, a: usize, b: usize, c: usize) {
+// Stores an answer of four numbers.
+fn store_all(answer: &mut [u32], number: usize, a: usize, b: usize, c: usize)
+    ensures { λ r. ⌜ now (answer .exit) ≡ sets (now (answer .entry)) 0 (number % 4294967296 ∷ a % 4294967296 ∷ b % 4294967296 ∷ c % 4294967296 ∷ []) ⌝ }
+{
     store(answer, 0, number);
     store(answer, 1, a);
     store(answer, 2, b);
@@ -28,31 +38,37 @@ pub extern "C" fn lift_call(
     levels: usize,
     out: &mut [u16],
     answer: &mut [u32],
-) {
+)
+    ensures { λ r. ⌜ LiftCall (now (tree .entry)) position levels (now (out .entry)) (now (out .exit)) (now (answer .entry)) (now (answer .exit)) ⌝ }
+{
     let lifted = lift::lift(tree, position, levels, out);
     match lifted {
         Lifted::Done {
-            length,
+            nodes,
             position: place,
             looks,
-        } => store_all(answer, 0, length, place, looks),
+        } => store_all(answer, 0, nodes, place, looks),
         Lifted::Refused(number) => store_all(answer, number as usize, 0, 0, 0),
     }
 }
 
 // Number, length, the holder's position.
 #[no_mangle]
-pub extern "C" fn gather_call(tree: &[u16], marks: &[u16], out: &mut [u16], answer: &mut [u32]) {
+pub extern "C" fn gather_call(tree: &[u16], marks: &[u16], out: &mut [u16], answer: &mut [u32])
+    ensures { λ r. ⌜ GatherCall (now (tree .entry)) (now (marks .entry)) (now (out .entry)) (now (out .exit)) (now (answer .entry)) (now (answer .exit)) ⌝ }
+{
     let gathered = gather::gather(tree, marks, out);
     match gathered {
-        Gathering::Done { length, holder } => store_all(answer, 0, length, holder, 0),
+        Gathering::Done { nodes, holder } => store_all(answer, 0, nodes, holder, 0),
         Gathering::Refused(number) => store_all(answer, number as usize, 0, 0, 0),
     }
 }
 
 // Number, count of instructions.
 #[no_mangle]
-pub extern "C" fn encode_call(tree: &[u16], out: &mut [u16], answer: &mut [u32]) {
+pub extern "C" fn encode_call(tree: &[u16], out: &mut [u16], answer: &mut [u32])
+    ensures { λ r. ⌜ EncodeCall (now (tree .entry)) (now (out .entry)) (now (out .exit)) (now (answer .entry)) (now (answer .exit)) ⌝ }
+{
     let coded = coder::encode(tree, out);
     match coded {
         Coded::Done(count) => store_all(answer, 0, count, 0, 0),
@@ -62,7 +78,9 @@ pub extern "C" fn encode_call(tree: &[u16], out: &mut [u16], answer: &mut [u32])
 
 // The number.
 #[no_mangle]
-pub extern "C" fn play_call(code: &[u16], patch: &[u16], lamps: &mut [u8]) -> u16 {
+pub extern "C" fn play_call(code: &[u16], patch: &[u16], lamps: &mut [u8]) -> u16
+    ensures { λ r. ⌜ PlayCall (now (code .entry)) (now (patch .entry)) (now (lamps .entry)) (now (lamps .exit)) r ⌝ }
+{
     let played = player::play(code, patch, lamps);
     match played {
         Played::Done => 0,

@@ -14,19 +14,19 @@ use borrow.Author.Tests.{ltb-true, ltb-false}
 use lib.ListN.{length, getD}
 use Rattle.tree.specs.Tree.{Operator, union, difference, Tree, size, selects, Over, Equivalent, isIn}
 use Rattle.tree.proofs.TreeLaws.{in-left, in-right, selects-equivalent}
-use Rattle.table.specs.Table.{filling, rowOf, Tabled}
-use Rattle.table.proofs.TableLaws.{row-below, row-append, row-agree, row-filling, selects-row, value-zero}
-use Rattle.builder.specs.Building.{selectsOptional, sizeOptional, OverOptional, join, single, expand, mostExpanded}
-use Rattle.builder.proofs.BuildingLaws.{join-over, join-size, single-over, single-size, beq-true, expand-over, expand-size}
+use Rattle.table.specs.InnerTable.{filling}
+use Rattle.table.proofs.TableLaws.{rowOf, Tabled, row-below, row-append, row-agree, row-filling, selects-row, value-zero}
+use Rattle.builder.proofs.BuildingLaws.{selectsOptional, OverOptional, join-over, join-size, single-over, single-size, beq-true, expand-over, expand-size}
+use Rattle.builder.specs.InnerBuilding.{sizeOptional, join, single, expand, mostExpanded}
 use Rattle.columns.proofs.BuildLaws.{Fails, first-fails, row-column, first-mark}
-use Rattle.columns.specs.Joining.{varies, columnsTree, constantTree, treeFor, holderFor}
-use Rattle.columns.specs.Choosing.{agrees, failing, settled, chosenAt, choice}
+use Rattle.columns.specs.InnerJoining.{varies, columnsTree, constantTree, treeFor, holderFor}
+use Rattle.columns.specs.InnerChoosing.{agrees, failing, settled, chosenAt, choice}
 use Rattle.columns.specs.Inner.{ReadyFor}
 use Rattle.columns.specs.declared.Choice.{Choice}
 use Rattle.columns.specs.declared.Choice.the-variants.{Never, Constant, Columns}
 use Rattle.gather.specs.Gathering.{Gathered}
-use Rattle.gather.specs.Columns.{mixed, FiveFillings}
-use Rattle.gather.specs.Inner.{Parts}
+use Rattle.gather.proofs.Criterion.{mixed, FiveFillings}
+use Rattle.gather.specs.Inner.{MarkedParts}
 use Rattle.gather.proofs.JoiningLaws.{columns-selects, constant-selects, columns-gathered, columns-ready, constant-gathered}
 
 -- ---- rows of columns of w rows
@@ -67,7 +67,7 @@ pub both-false : (a b : Bool) → (a || b) ≡ false → (a ≡ false) × (b ≡
 both-false true b e = absurd (true≢false e)
 both-false false b e = (refl, e)
 
-module _ (Ta : ℕ → Bool) (ms us : List ℕ) {m : ℕ → Bool} (parts : Parts m ms us) where
+module _ (Ta : ℕ → Bool) (ms us : List ℕ) {m : ℕ → Bool} (parts : MarkedParts m ms us) where
   abbrev w : ℕ
   w = 2 ^ length ms
 

@@ -8,11 +8,11 @@ use Prim.Native.Nat.{ℕ, _+_, _-_}
 use native.Mathlib.Omega.{arith}
 use lib.ListN.{length, length-append}
 use Rattle.tree.specs.Tree.{Operator, union, difference, Tree, node, postfix, size, apply, selects, Over}
-use Rattle.tree.specs.Context.{Side, left, right, Frame, frame, sided, plug, before, selectsAbove, OverAbove}
+use Rattle.tree.specs.Context.{Side, left, right, Frame, frame, sided, plug, before, OverAbove}
+use Rattle.tree.proofs.ContextLaws.{selectsAbove, selects-plug, plug-append}
 use Rattle.tree.proofs.TreeLaws.{postfix-length, size-positive, selects-agree, equivalent-selects}
-use Rattle.tree.proofs.ContextLaws.{selects-plug, plug-append}
 use Rattle.gather.specs.Gathering.{Gathered, CannotBeGathered}
-use Rattle.gather.specs.Columns.{mixed, column, TwoColumns, FiveFillings}
+use Rattle.gather.proofs.Criterion.{mixed, column, TwoColumns, FiveFillings}
 
 -- ---- gathered trees, from the holder to the root
 abbrev pub unmarked : (ℕ → Bool) → ℕ → Bool

@@ -1,5 +1,5 @@
 -- The status of a tree is right: where it names a holder the tree is gathered with that holder, and a gathered tree's status
--- names its holder. So a tree has one holder at most.
+-- names its holder.
 use mathlib.Core.Path.{_≡_, refl, sym, ap, ap₂, subst, _∙_}
 use mathlib.Core.Bool.{Bool, true, false, cond, not}
 use mathlib.Core.Logic.{_⊎_, inl, inr}
@@ -10,10 +10,10 @@ use borrow.Author.Tests.{not-true}
 use lib.ListN.{length, length-append}
 use Rattle.tree.specs.Tree.{Operator, Tree, leaf, node, postfix, size, Over}
 use Rattle.tree.specs.Context.{left, right, Frame, frame, plug, before, OverAbove}
-use Rattle.tree.specs.Pass.{fold}
+use Rattle.tree.specs.InnerPass.{fold}
 use Rattle.tree.proofs.TreeLaws.{postfix-length, size-positive}
 use Rattle.gather.specs.Gathering.{Gathered}
-use Rattle.gather.specs.Holding.{merged, status}
+use Rattle.gather.specs.InnerHolding.{merged, status}
 use Rattle.gather.specs.declared.Status.{Status}
 use Rattle.gather.specs.declared.Status.the-variants.{Free, Mixed, All, Held}
 use Rattle.gather.proofs.GatheringLaws.{unmarked, gathered-whole, gathered-left, gathered-right}
@@ -102,16 +102,6 @@ gathered-status {m} {t} {p} g =
     let e : i + (size (g .holder) - 1) ≡ p = omega (arith, g .at, size-positive (g .holder)) in
     subst (λ (x : Tree). Names (status m 0 x) p) (sym (g .whole))
     (named-plug m (g .above) (g .holder) p (g .others) (inr (status-all m i (g .holder) (g .marked) ∙ ap All e)))
-
--- there is one holder at most
-pub holder-unique : {m : ℕ → Bool} {t : Tree} {p q : ℕ} → Gathered m t p → Gathered m t q → p ≡ q
-holder-unique {m} {t} {p} {q} g h = go (status m 0 t) (gathered-status g) (gathered-status h)
-  where
-    go : (s : Status) → Names s p → Names s q → p ≡ q
-    go s (inl e) (inl f) = cc
-    go s (inl e) (inr f) = cc
-    go s (inr e) (inl f) = cc
-    go s (inr e) (inr f) = cc
 
 -- a status that names none: the tree is not gathered
 pub status-not : {m : ℕ → Bool} {t : Tree} {p : ℕ} (s : Status) → status m 0 t ≡ s → ((k : ℕ) → Names s k → ⊥) → Gathered m t p → ⊥

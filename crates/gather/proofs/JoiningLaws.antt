@@ -10,14 +10,14 @@ use native.Mathlib.Omega.{arith}
 use lib.ListN.{length, getD}
 use Rattle.tree.specs.Tree.{union, difference, Tree, leaf, node, size, Over}
 use Rattle.tree.proofs.TreeLaws.{size-positive, or-false}
-use Rattle.table.specs.Table.{rowOf}
-use Rattle.builder.specs.Building.{selectsOptional, sizeOptional, OverOptional, join, single, differs, expand}
-use Rattle.builder.proofs.BuildingLaws.{join-selects, single-leaf, single-over, group-holds, every-passes, Passes, implies, implied, implies-by, beq-true, expand-selects, expand-over, expand-some}
+use Rattle.table.proofs.TableLaws.{rowOf}
+use Rattle.builder.proofs.BuildingLaws.{selectsOptional, OverOptional, join-selects, single-leaf, single-over, group-holds, every-passes, Passes, implies, implied, implies-by, beq-true, expand-selects, expand-over, expand-some}
+use Rattle.builder.specs.InnerBuilding.{sizeOptional, join, single, differs, expand}
 use Rattle.columns.proofs.BuildLaws.{first-mark}
-use Rattle.columns.specs.Joining.{varies, columnsTree, columnsHolder, constantTree, constantHolder}
+use Rattle.columns.specs.InnerJoining.{varies, columnsTree, columnsHolder, constantTree, constantHolder}
 use Rattle.columns.specs.Inner.{Ready}
 use Rattle.gather.specs.Gathering.{Gathered}
-use Rattle.gather.specs.Inner.{Parts}
+use Rattle.gather.specs.Inner.{MarkedParts}
 use Rattle.gather.proofs.GatheringLaws.{unmarked, gathered-whole, gathered-left, gathered-right}
 
 -- ---- gathered, of no tree or a tree
@@ -54,7 +54,7 @@ differs-false : (a b : Bool) → b ≡ false → differs a b ≡ a
 differs-false true b e = rw e
 differs-false false b e = rw e
 
-module _ (Ta : ℕ → Bool) (ms us : List ℕ) {m : ℕ → Bool} (parts : Parts m ms us) (v : ℕ → Bool) where
+module _ (Ta : ℕ → Bool) (ms us : List ℕ) {m : ℕ → Bool} (parts : MarkedParts m ms us) (v : ℕ → Bool) where
   abbrev w : ℕ
   w = 2 ^ length ms
 
@@ -129,7 +129,7 @@ module _ (Ta : ℕ → Bool) (ms us : List ℕ) {m : ℕ → Bool} (parts : Part
 at-position : {m : ℕ → Bool} {o : Option Tree} {p q : ℕ} → p ≡ q → GatheredOptional m o p → GatheredOptional m o q
 at-position {m} {o} e g = subst (GatheredOptional m o) e g
 
-module _ (Ta : ℕ → Bool) (ms us : List ℕ) {m : ℕ → Bool} (parts : Parts m ms us) where
+module _ (Ta : ℕ → Bool) (ms us : List ℕ) {m : ℕ → Bool} (parts : MarkedParts m ms us) where
   -- over unmarked groups, and over marked ones
   others-over : (Tb : ℕ → Bool) (off step : ℕ) → OverOptional (unmarked m) (expand Tb off step us)
   others-over Tb off step = expand-over (unmarked m) Tb off step us (parts .other-groups) (λ g e. ap not (parts .unmarked g e))

@@ -1,8 +1,10 @@
--- The theorem, and the laws of the definitions in specs/, for this crate and those above it.
+-- THE THEOREM: Criterion states it and Theorem proves it. The others are the laws of the definitions in specs/, for this crate and
+-- those above it.
+pub mod Criterion
+pub mod Theorem
 pub mod GatheringLaws
 pub mod JoiningLaws
 pub mod ChoosingLaws
 pub mod HoldingLaws
 mod LoopLaws
 mod WholeLaws
-pub mod Theorem

@@ -1,46 +1,23 @@
 -- One turn of each loop over a list of groups or marks.
-use mathlib.Core.Path.{_≡_, refl, sym, ap, _∙_}
+use mathlib.Core.Path.{_≡_, sym, ap, _∙_}
 use mathlib.Core.Bool.{Bool, true, false, not, cond, _||_}
-use mathlib.Core.List.{List, [], _∷_, _++_, append-nil}
+use mathlib.Core.List.{List, [], _∷_, _++_}
 use mathlib.Core.Option.{Option}
 use Prim.Native.Nat.{ℕ, _+_, _-_, _≤_, _<_}
 use native.Mathlib.Omega.{arith}
 use native.Mathlib.Numerals.{add-one}
-use lib.Dec.{T, eqb, ltb}
+use lib.Dec.{T, eqb}
 use borrow.Author.Tests.{lt-ltb, le-ltb}
 use lib.ListN.{length, getD, set, take, drop, length-append, length-drop, drop-of-length-le}
 use lib.Seq.{take-all, take-suc-set, length-take-le}
-use Rattle.tree.specs.Tree.{Operator, union, difference, sign, Tree, leaf, node, postfix, leaves, mostNodes, isIn, withNew, collect}
-use Rattle.tree.proofs.TreeLaws.{group-most}
+use Rattle.tree.specs.Tree.{union, sign, Tree, mostNodes, isIn, withNew, collect, mostGroups}
 use Rattle.tree.specs.Parse.{treeOf, isSome}
-use Rattle.tree.proofs.GroupLaws.{collect-longer}
+use Rattle.tree.specs.InnerGroups.{leavesIn}
+use Rattle.tree.proofs.GroupLaws.{collect-longer, leaves-postfix}
 use Rattle.tree.proofs.PassLaws.{here}
 use Rattle.tree.proofs.ParseLaws.{the-tree, no-tree-of}
-use Rattle.table.specs.Table.{mostGroups}
-use Rattle.gather.specs.Inner.{leavesIn, Collected}
-use Rattle.gather.specs.Answer.{badMark, groupsFault, treeFault, fault}
-
--- ---- the groups of a list
-leaves-append : (xs ys : List ℕ) → leavesIn (xs ++ ys) ≡ leavesIn xs ++ leavesIn ys
-unfolding leavesIn
-leaves-append [] ys = refl
-leaves-append (x ∷ xs) ys = go (ltb x (sign union)) (leaves-append xs ys)
-  where
-    go : (b : Bool) → leavesIn (xs ++ ys) ≡ leavesIn xs ++ leavesIn ys → cond b (x ∷ leavesIn (xs ++ ys)) (leavesIn (xs ++ ys)) ≡ cond b (x ∷ leavesIn xs) (leavesIn xs) ++ leavesIn ys
-    go true e = ap (λ (zs : List ℕ). x ∷ zs) e
-    go false e = e
-
-sign-none : (o : Operator) → leavesIn (sign o ∷ []) ≡ []
-unfolding leavesIn
-sign-none union = refl
-sign-none difference = refl
-
--- of a tree's list they are its leaves
-pub leaves-postfix : (t : Tree) → leavesIn (postfix t) ≡ leaves t
-unfolding postfix leaves
-leaves-postfix (leaf g h) = unfold leavesIn in rw (lt-ltb g (sign union) (let z : g < 65001 = omega (arith, group-most g h) in z))
-leaves-postfix (node o l r) =
-    leaves-append (postfix l) (postfix r ++ (sign o ∷ [])) ∙ rw (leaves-append (postfix r) (sign o ∷ []), leaves-postfix l, leaves-postfix r, sign-none o) (ap (λ (zs : List ℕ). leaves l ++ zs) (append-nil (leaves r)))
+use Rattle.gather.specs.Inner.{Collected}
+use Rattle.gather.specs.Answer.{badMark, groupsFault, treeFault, gatherFault}
 
 module _ (xs list : List ℕ) (i : ℕ) where
   pub collect-operator : i < length list → sign union ≤ getD list i 0 → collect xs (leavesIn (drop i list)) ≡ collect xs (leavesIn (drop (i + 1) list))
@@ -113,30 +90,30 @@ module _ (found list : List ℕ) (count i : ℕ) where
 
 -- ---- the first fault
 module _ (list marks : List ℕ) (room : ℕ) where
-  pub fault-short : room < mostNodes → 11 ≡ fault list marks room
-  unfolding fault
+  pub fault-short : room < mostNodes → 11 ≡ gatherFault list marks room
+  unfolding gatherFault
   fault-short h = rw (lt-ltb room mostNodes h)
 
   module _ (h : mostNodes ≤ room) where
-    fault-tree : treeFault (treeOf list) marks ≡ fault list marks room
-    unfolding fault
+    fault-tree : treeFault (treeOf list) marks ≡ gatherFault list marks room
+    unfolding gatherFault
     fault-tree = rw (le-ltb room mostNodes h)
 
-    pub fault-none : isSome (treeOf list) ≡ false → 12 ≡ fault list marks room
+    pub fault-none : isSome (treeOf list) ≡ false → 12 ≡ gatherFault list marks room
     fault-none e = sym (sym fault-tree ∙ ap (λ (o : Option Tree). treeFault o marks) (no-tree-of list e))
 
     -- the groups found are the tree's
-    pub fault-groups : isSome (treeOf list) ≡ true → groupsFault (collect [] (leavesIn list)) marks ≡ fault list marks room
+    pub fault-groups : isSome (treeOf list) ≡ true → groupsFault (collect [] (leavesIn list)) marks ≡ gatherFault list marks room
     fault-groups e =
         let T = the-tree list e in
         ap (λ (gs : List ℕ). groupsFault gs marks) (ap (λ (xs : List ℕ). collect [] (leavesIn xs)) (T .list) ∙ ap (collect []) (leaves-postfix (T .tree)))
         ∙ sym (ap (λ (o : Option Tree). treeFault o marks) (T .is)) ∙ fault-tree
 
-    pub fault-many : (found : List ℕ) (count : ℕ) → isSome (treeOf list) ≡ true → Collected (collect [] (leavesIn list)) found count → mostGroups < count → 17 ≡ fault list marks room
+    pub fault-many : (found : List ℕ) (count : ℕ) → isSome (treeOf list) ≡ true → Collected (collect [] (leavesIn list)) found count → mostGroups < count → 17 ≡ gatherFault list marks room
     fault-many found count e c k = sym (sym (fault-groups e) ∙ rw (lt-ltb mostGroups (length (collect [] (leavesIn list))) (c .more k)))
 
     pub fault-marks : (found : List ℕ) (count : ℕ) (bad : Bool) → isSome (treeOf list) ≡ true → Collected (collect [] (leavesIn list)) found count → count ≤ mostGroups → length found ≡ mostGroups
-        → bad ≡ (eqb (length marks) 0 || badMark (take count found) marks) → cond bad 18 0 ≡ fault list marks room
+        → bad ≡ (eqb (length marks) 0 || badMark (take count found) marks) → cond bad 18 0 ≡ gatherFault list marks room
     fault-marks found count bad e c k l q =
         let z : length (collect [] (leavesIn list)) ≤ mostGroups = omega (arith, ap length (c .fits k), length-take-le count found (omega arith)) in
         sym (sym (fault-groups e) ∙ rw (le-ltb mostGroups (length (collect [] (leavesIn list))) z, ← (c .fits k), ← q))

@@ -1,5 +1,7 @@
--- THE THEOREM: whichever tree and whichever marks of at least one group, no tree of unions and differences, of any size and over
--- any groups, is equivalent and gathered exactly when two columns are different and neither is constant.
+-- THE THEOREM, stated in proofs/Criterion.antt: whichever tree and whichever marks of at least one group, no tree of unions and
+-- differences, of any size and over any groups, is equivalent and gathered exactly when two columns are different and neither is
+-- constant. That such columns rule every gathered tree out stands in proofs/GatheringLaws.antt, and that without them one can be
+-- built in proofs/ChoosingLaws.antt, for a list of marked groups and a list of others. Here the lists are taken from the tree.
 use mathlib.Core.Path.{_≡_, refl, sym, ap, _∙_}
 use mathlib.Core.Bool.{Bool, true, false, not, cond, _&&_, _||_, false≢true}
 use mathlib.Core.List.{List, [], _∷_, _++_}
@@ -7,17 +9,18 @@ use Prim.Native.Nat.{ℕ, _*_, _^_}
 use lib.Dec.{eqb}
 use borrow.Author.Tests.{eqb-true, not-true}
 use lib.ListN.{length}
-use Rattle.tree.specs.Tree.{Tree, isGroup, Over, leaves, isIn, collect, Distinct}
+use Rattle.tree.specs.Tree.{Tree, isGroup, Over, leaves, isIn, collect}
+use Rattle.tree.specs.InnerGroups.{Distinct}
 use Rattle.tree.proofs.TreeLaws.{or-right, or-cases, in-left, in-right, over-leaves, over-implies}
 use Rattle.tree.proofs.GroupLaws.{in-collect, distinct-collect, collect-longer, leaves-groups}
-use Rattle.table.specs.Table.{valueAt}
+use Rattle.table.specs.InnerTable.{valueAt}
 use Rattle.builder.proofs.BuildingLaws.{both}
-use Rattle.columns.specs.Choosing.{choice}
+use Rattle.columns.specs.InnerChoosing.{choice}
 use Rattle.columns.specs.declared.Choice.{Choice}
 use Rattle.columns.specs.declared.Choice.the-variants.{Never, Constant, Columns}
 use Rattle.gather.specs.Gathering.{CannotBeGathered}
-use Rattle.gather.specs.Columns.{FiveFillings, Criterion}
-use Rattle.gather.specs.Inner.{Parts}
+use Rattle.gather.proofs.Criterion.{FiveFillings, Criterion}
+use Rattle.gather.specs.Inner.{MarkedParts}
 use Rattle.gather.proofs.GatheringLaws.{unmarked, fillings-cannot, fillings-columns, columns-fillings}
 use Rattle.gather.proofs.ChoosingLaws.{Verdict, verdict}
 
@@ -61,7 +64,7 @@ module _ (m : ℕ → Bool) (x : ℕ) (group : isGroup x ≡ true) (marked : m x
       let z = both (isIn (leaves t) g) (not (m g)) (sym (in-keep (unmarked m) (leaves t) g) ∙ sym (in-collect [] (keep (unmarked m) (leaves t)) g) ∙ e) in
       (z .0, not-true (m g) (z .1))
 
-  parts : Parts m ms us
+  parts : MarkedParts m ms us
   unfolding ms us Distinct isIn
   parts = record {
     marks = distinct-collect (x ∷ []) (keep m (leaves t)) (refl, tt);
@@ -91,7 +94,7 @@ module _ (m : ℕ → Bool) (x : ℕ) (group : isGroup x ≡ true) (marked : m x
       go Constant r = absurd (n .never (r .tree) _ (r .equivalent) (r .gathered))
       go (Columns low high start) r = absurd (n .never (r .tree) _ (r .equivalent) (r .gathered))
 
--- THE THEOREM. x is any marked group.
+-- THE THEOREM, for any tree t and any marks m; x is a group that they mark
 pub theorem : (m : ℕ → Bool) (x : ℕ) → isGroup x ≡ true → m x ≡ true → (t : Tree) → Criterion m t
 theorem m x group marked t = record {
   cannot-columns = λ n. fillings-columns (cannot-five m x group marked t n);

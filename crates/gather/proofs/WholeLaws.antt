@@ -12,31 +12,32 @@ use lib.Dec.{eqb, ltb}
 use borrow.Author.Tests.{lt-ltb, ltb-true, ltb-false, eqb-true, eqb-false, not-false}
 use lib.ListN.{length, getD, take, drop, length-append, length-drop, take-append-drop}
 use lib.Seq.{take-all, take-at, drop-at, length-take-le}
-use Rattle.tree.specs.Tree.{Tree, sign, union, isGroup, postfix, size, mostNodes, Over, leaves, isIn, collect, groups, Distinct}
+use Rattle.tree.specs.Tree.{Tree, sign, union, isGroup, postfix, size, mostNodes, Over, leaves, isIn, collect, groups, mostGroups}
+use Rattle.tree.specs.InnerGroups.{Distinct, leavesIn}
 use Rattle.tree.specs.Parse.{treeOf}
-use Rattle.tree.specs.Writing.{over, Wrote}
+use Rattle.tree.specs.Writing.{over}
+use Rattle.tree.specs.InnerWriting.{Wrote}
 use Rattle.tree.proofs.TreeLaws.{postfix-length, equivalent-refl, over-implies, or-cases, in-right, group-most}
-use Rattle.tree.proofs.GroupLaws.{is-in-here, in-later, in-collect, distinct-collect, distinct-split, collect-begins, collect-distinct, distinct-most, leaves-groups, groups-leaves, over-collect}
+use Rattle.tree.proofs.GroupLaws.{is-in-here, in-later, in-collect, distinct-collect, distinct-split, collect-begins, collect-distinct, distinct-most, leaves-groups, groups-leaves, over-collect, leaves-postfix}
 use Rattle.tree.proofs.ParseLaws.{IsTree, tree-of-sound, postfix-injective}
 use Rattle.tree.proofs.WritingLaws.{wrote-over}
-use Rattle.table.specs.Table.{mostGroups, rowCount, table, rowsOf, Tabled, Listed}
-use Rattle.table.proofs.TableLaws.{table-at, rows-most}
-use Rattle.builder.specs.Building.{postfixOptional, mostExpanded}
-use Rattle.columns.specs.Joining.{treeFor, holderFor}
-use Rattle.columns.specs.Choosing.{choice}
+use Rattle.table.specs.InnerTable.{rowCount, table, rowsOf, Listed}
+use Rattle.table.proofs.TableLaws.{Tabled, table-at, rows-most}
+use Rattle.builder.specs.InnerBuilding.{postfixOptional, mostExpanded}
+use Rattle.columns.specs.InnerJoining.{treeFor, holderFor}
+use Rattle.columns.specs.InnerChoosing.{choice}
 use Rattle.columns.specs.Inner.{Scanned, Room, ReadyFor, Joined}
 use Rattle.columns.specs.declared.Choice.{Choice}
 use Rattle.columns.specs.declared.Choice.the-variants.{Never, Constant, Columns}
 use Rattle.gather.specs.Gathering.{Gathered}
-use Rattle.gather.specs.Inner.{Parts, leavesIn, Collected, BuiltFor, Ordered}
-use Rattle.gather.specs.Answer.{badMark, groupsFault, treeFault, fault, GatheredTo, GathersTree}
+use Rattle.gather.specs.Inner.{MarkedParts, Collected, BuiltFor, Ordered}
+use Rattle.gather.specs.Answer.{badMark, groupsFault, treeFault, gatherFault, GatheredTo, GathersTree}
 use Rattle.gather.specs.declared.Status.the-variants.{Free, Mixed}
 use Rattle.gather.specs.declared.Gathering.{Gathering}
 use Rattle.gather.specs.declared.Gathering.the-variants.{Done, Refused}
 use Rattle.gather.proofs.GatheringLaws.{fillings-cannot}
 use Rattle.gather.proofs.ChoosingLaws.{Result, Verdict, verdict, both-false}
 use Rattle.gather.proofs.HoldingLaws.{Names}
-use Rattle.gather.proofs.LoopLaws.{leaves-postfix}
 
 -- ---- sizes
 most-power : (k : ℕ) → mostExpanded k + 5 ≡ 5 * 2 ^ k
@@ -178,8 +179,8 @@ pub record Faultless (list marks : List ℕ) (room : ℕ) : Type 0 where
   pub some-mark : 0 < length marks
   pub good : Good (groups (tree .tree)) marks
 
-pub faultless : (list marks : List ℕ) (room : ℕ) → fault list marks room ≡ 0 → Faultless list marks room
-unfolding fault
+pub faultless : (list marks : List ℕ) (room : ℕ) → gatherFault list marks room ≡ 0 → Faultless list marks room
+unfolding gatherFault
 faultless list marks room h = go (ltb room mostNodes) refl h
   where
     marks-fault : (t : IsTree list) → (b : Bool) → (eqb (length marks) 0 || badMark (groups (t .tree)) marks) ≡ b → mostNodes ≤ room → length (groups (t .tree)) ≤ mostGroups → cond {A = ℕ} b 18 0 ≡ 0 → Faultless list marks room
@@ -299,7 +300,7 @@ module _ {list marks : List ℕ} {room : ℕ} (f : Faultless list marks room) wh
         let rest = collect-begins marks (leaves t₀) .0 in
         let S = distinct-split marks rest (subst Distinct begins all-distinct) in
         let in-all : (g : ℕ) → isIn rest g ≡ true → isIn all g ≡ true = λ g e. ap (λ (xs : List ℕ). isIn xs g) begins ∙ in-right marks rest g e in
-        let P : Parts (isIn marks) marks rest = record {
+        let P : MarkedParts (isIn marks) marks rest = record {
           marks = S .first;
           others = S .second;
           marked = λ g e. e;
@@ -311,8 +312,8 @@ module _ {list marks : List ℕ} {room : ℕ} (f : Faultless list marks room) wh
         record {
           within = omega (arith, ap length all-found, ap length begins, length-append marks rest);
           most = omega (arith, ap length all-found, all-few);
-          parts = subst (λ (xs : List ℕ). Parts (isIn (take (length marks) (take count found))) (take (length marks) (take count found)) xs) (sym rest-is)
-              (subst (λ (xs : List ℕ). Parts (isIn xs) xs rest) (sym marks-first) P);
+          parts = subst (λ (xs : List ℕ). MarkedParts (isIn (take (length marks) (take count found))) (take (length marks) (take count found)) xs) (sym rest-is)
+              (subst (λ (xs : List ℕ). MarkedParts (isIn xs) xs rest) (sym marks-first) P);
           over = λ t e. subst (λ (xs : List ℕ). Over (isIn xs) t) (sym all-found) (subst (Over (isIn all)) (sym (same-tree t e)) (over-collect marks t₀));
           own = λ t e g h. subst (λ (x : Tree). isIn (groups x) g ≡ true) (sym (same-tree t e)) (all-own g (subst (λ (xs : List ℕ). isIn xs g ≡ true) all-found h));
           not-gathered = λ t p e g. n t p e (subst (λ (xs : List ℕ). Gathered (isIn xs) t p) marks-first g);

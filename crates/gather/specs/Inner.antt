@@ -1,13 +1,12 @@
 -- What the functions inside the crate say of each other. No caller has to believe any of this.
 use mathlib.Core.Path.{_≡_}
-use mathlib.Core.Bool.{Bool, true, false, cond}
-use mathlib.Core.List.{List, [], _∷_}
+use mathlib.Core.Bool.{Bool, true, false}
+use mathlib.Core.List.{List}
 use Prim.Native.Nat.{ℕ, _<_, _≤_}
-use lib.Dec.{ltb}
 use lib.ListN.{length, take, drop}
-use Rattle.tree.specs.Tree.{union, sign, Tree, isGroup, postfix, Over, isIn, Distinct, groups}
-use Rattle.table.specs.Table.{mostGroups}
-use Rattle.columns.specs.Joining.{treeFor, holderFor}
+use Rattle.tree.specs.Tree.{Tree, isGroup, postfix, Over, isIn, groups, mostGroups}
+use Rattle.tree.specs.InnerGroups.{Distinct}
+use Rattle.columns.specs.InnerJoining.{treeFor, holderFor}
 use Rattle.columns.specs.Inner.{Joined}
 use Rattle.columns.specs.declared.Choice.{Choice}
 use Rattle.columns.specs.declared.Choice.the-variants.{Never}
@@ -16,7 +15,7 @@ use Rattle.gather.specs.declared.Gathering.{Gathering}
 use Rattle.gather.specs.declared.Gathering.the-variants.{Done, Refused}
 
 -- ms and us are groups, each once, ms marked by m and us not
-pub record Parts (m : ℕ → Bool) (ms us : List ℕ) : Type 0 where
+pub record MarkedParts (m : ℕ → Bool) (ms us : List ℕ) : Type 0 where
   pub marks : Distinct ms
   pub others : Distinct us
   pub marked : (g : ℕ) → isIn ms g ≡ true → m g ≡ true
@@ -24,12 +23,6 @@ pub record Parts (m : ℕ → Bool) (ms us : List ℕ) : Type 0 where
   pub mark-groups : (g : ℕ) → isIn ms g ≡ true → isGroup g ≡ true
   pub other-groups : (g : ℕ) → isIn us g ≡ true → isGroup g ≡ true
   pub some-mark : 0 < length ms
-
--- ---- groups
--- the groups of a tree's list: its numbers below the operators
-unfoldable pub leavesIn : List ℕ → List ℕ
-leavesIn [] = []
-leavesIn (x ∷ xs) = cond (ltb x (sign union)) (x ∷ leavesIn xs) (leavesIn xs)
 
 -- the list's first `count` numbers are gs, or gs are more than eight
 pub record Collected (gs list : List ℕ) (count : ℕ) : Type 0 where
@@ -39,14 +32,14 @@ pub record Collected (gs list : List ℕ) (count : ℕ) : Type 0 where
 -- ---- the whole
 -- the choice's tree was written, or there is none
 unfoldable pub BuiltFor : (ℕ → Bool) → List ℕ → List ℕ → Choice → List ℕ → List ℕ → Gathering → Type 0
-BuiltFor T ms us c out out′ (Done count holder) = Joined (treeFor T ms us c) (holderFor T ms us c) out out′ count holder × (c ≡ Never → ⊥)
+BuiltFor T ms us c out out′ (Done nodes holder) = Joined (treeFor T ms us c) (holderFor T ms us c) out out′ nodes holder × (c ≡ Never → ⊥)
 BuiltFor T ms us c out out′ (Refused n) = (n ≡ 19) × (out′ ≡ out) × (c ≡ Never)
 
 -- the list is a tree's that is not gathered for the first m groups of gs, and gs are its groups
 pub record Ordered (list gs : List ℕ) (m : ℕ) : Type 0 where
   pub within : m ≤ length gs
   pub most : length gs ≤ mostGroups
-  pub parts : Parts (isIn (take m gs)) (take m gs) (drop m gs)
+  pub parts : MarkedParts (isIn (take m gs)) (take m gs) (drop m gs)
   pub over : (t : Tree) → list ≡ postfix t → Over (isIn gs) t
   pub own : (t : Tree) → list ≡ postfix t → (g : ℕ) → isIn gs g ≡ true → isIn (groups t) g ≡ true
   pub not-gathered : (t : Tree) (p : ℕ) → list ≡ postfix t → Gathered (isIn (take m gs)) t p → ⊥

@@ -1,5 +1,4 @@
 pub mod Gathering
-pub mod Columns
-pub mod Holding
+pub mod InnerHolding
 pub mod Inner
 pub mod Answer

@@ -1,40 +1,41 @@
 // Gathering: a tree with the marked groups under one node, or the proof that no tree has them so.
 ghost use mathlib.Core.Path.{_≡_};
 ghost use mathlib.Core.Bool.{_||_};
-ghost use mathlib.Core.List.{List, []};
 ghost use mathlib.Core.Option.{some};
 ghost use Prim.Native.Nat.{ℕ, _≤_};
 ghost use lib.Dec.{eqb};
 ghost use lib.ListN.{length, take};
-ghost use Rattle.tree.specs.Tree.{Tree, postfix, isIn, collect, mostNodes};
+ghost use Rattle.tree.specs.Tree.{Tree, postfix, isIn, collect, mostNodes, mostGroups};
 ghost use Rattle.tree.specs.Parse.{treeOf};
-ghost use Rattle.table.specs.Table.{rowCount, mostGroups, rowsOf, Listed};
+ghost use Rattle.tree.specs.InnerGroups.{leavesIn};
+ghost use Rattle.table.specs.InnerTable.{rowCount, rowsOf, Listed};
 ghost use Rattle.columns.specs.Inner.{Room, ReadyFor};
 ghost use Rattle.gather.specs.Gathering.{Gathered};
-ghost use Rattle.gather.specs.Holding.{merged, statusOf, status};
-ghost use Rattle.gather.specs.Inner.{leavesIn, Collected, BuiltFor, Ordered};
-ghost use Rattle.gather.specs.Answer.{badMark, fault, GathersTree, Gathers};
+ghost use Rattle.gather.specs.InnerHolding.{merged, statusOf, status};
+ghost use Rattle.gather.specs.Inner.{Collected, BuiltFor, Ordered};
+ghost use Rattle.gather.specs.Answer.{badMark, gatherFault, GathersTree, Gathers};
 use columns::Choice;
 use columns::build_columns;
 use columns::build_constant;
 use columns::choose;
 use columns::power;
-use table::MOST_GROUPS;
 use table::ROWS;
+use tree::MOST_GROUPS;
 
-const SHORT_BUFFER: u16 = 11;
+// 01's numbers of refusal.
+pub const SHORT_BUFFER: u16 = 11;
 
-const NO_TREE: u16 = 12;
+pub const NOT_A_TREE: u16 = 12;
 
-const MANY_GROUPS: u16 = 17;
+pub const TOO_MANY_GROUPS: u16 = 17;
 
-const BAD_MARKS: u16 = 18;
+pub const BAD_MARKS: u16 = 18;
 
-const CANNOT_BE_GATHERED: u16 = 19;
+pub const CANNOT_BE_GATHERED: u16 = 19;
 
-// The answer: the tree's length and the holder's position, or 01's number.
+// The answer: the tree's nodes and the holder's position, or 01's number.
 pub enum Gathering {
-    Done { length: usize, holder: usize },
+    Done { nodes: usize, holder: usize },
     Refused(u16),
 }
 
@@ -75,6 +76,7 @@ fn merge(a: Status, b: Status, at: usize) -> Status
     }
 }
 
+// The status of a leaf at a position.
 fn leaf_status(marks: &[u16], at: usize, x: u16) -> Status
     ensures { λ r. ⌜ r ≡ statusOf (isIn (now (marks .entry)) x) at ⌝ }
 {
@@ -177,7 +179,7 @@ fn bad_marks(groups: &[u16], marks: &[u16]) -> bool
 
 // The first fault's number, for a buffer of `room` numbers; 0 if there is none.
 fn fault_of(list: &[u16], marks: &[u16], room: usize) -> u16
-    ensures { λ r. ⌜ r ≡ fault (now (list .entry)) (now (marks .entry)) room ⌝ }
+    ensures { λ r. ⌜ r ≡ gatherFault (now (list .entry)) (now (marks .entry)) room ⌝ }
 {
     if room < tree::MOST_NODES {
         return SHORT_BUFFER;
@@ -191,7 +193,7 @@ fn fault_of(list: &[u16], marks: &[u16], room: usize) -> u16
         let all = add_groups(nothing, list);
         let count = all.count;
         if MOST_GROUPS < count {
-            return MANY_GROUPS;
+            return TOO_MANY_GROUPS;
         }
         let found = all.list;
         let bad = bad_marks(&found[..count], marks);
@@ -200,7 +202,7 @@ fn fault_of(list: &[u16], marks: &[u16], room: usize) -> u16
         }
         return 0;
     }
-    NO_TREE
+    NOT_A_TREE
 }
 
 // ---- the whole
@@ -225,14 +227,14 @@ fn build(
         Choice::Constant => {
             let b = build_constant(t, marks, others, w, columns, out);
             Gathering::Done {
-                length: b.length,
+                nodes: b.nodes,
                 holder: b.holder,
             }
         }
         Choice::Columns { low, high, start } => {
             let b = build_columns(t, marks, others, w, columns, low, high, start, out);
             Gathering::Done {
-                length: b.length,
+                nodes: b.nodes,
                 holder: b.holder,
             }
         }
@@ -255,7 +257,7 @@ fn gather_ordered(list: &[u16], groups: &[u16], m: usize, out: &mut [u16]) -> Ga
 
 // Gathers a tree that is not gathered.
 fn rearrange(list: &[u16], marks: &[u16], out: &mut [u16]) -> Gathering
-    requires { ⌜ fault (now list) (now marks) (length (now out)) ≡ 0 ⌝ }
+    requires { ⌜ gatherFault (now list) (now marks) (length (now out)) ≡ 0 ⌝ }
     requires { ⌜ ((t : Tree) (p : ℕ) → now list ≡ postfix t → Gathered (isIn (now marks)) t p → ⊥) ⌝ }
     ensures { λ r. ⌜ ((t : Tree) → treeOf (now (list .entry)) ≡ some t → GathersTree t (now (marks .entry)) (now (out .entry)) (now (out .exit)) r) ⌝ }
 {
@@ -272,7 +274,7 @@ fn rearrange(list: &[u16], marks: &[u16], out: &mut [u16]) -> Gathering
 
 // Gathers a tree and marks that have no fault: unchanged if it is gathered.
 fn gather_tree(list: &[u16], marks: &[u16], out: &mut [u16]) -> Gathering
-    requires { ⌜ fault (now list) (now marks) (length (now out)) ≡ 0 ⌝ }
+    requires { ⌜ gatherFault (now list) (now marks) (length (now out)) ≡ 0 ⌝ }
     ensures { λ r. ⌜ ((t : Tree) → treeOf (now (list .entry)) ≡ some t → GathersTree t (now (marks .entry)) (now (out .entry)) (now (out .exit)) r) ⌝ }
 {
     let status = holding(list, marks);
@@ -280,12 +282,12 @@ fn gather_tree(list: &[u16], marks: &[u16], out: &mut [u16]) -> Gathering
         Status::Free => rearrange(list, marks, out),
         Status::Mixed => rearrange(list, marks, out),
         Status::All(holder) => {
-            let length = tree::copy(list, out, 0);
-            Gathering::Done { length, holder }
+            let nodes = tree::copy(list, out, 0);
+            Gathering::Done { nodes, holder }
         }
         Status::Held(holder) => {
-            let length = tree::copy(list, out, 0);
-            Gathering::Done { length, holder }
+            let nodes = tree::copy(list, out, 0);
+            Gathering::Done { nodes, holder }
         }
     }
 }

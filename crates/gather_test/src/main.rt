@@ -60,10 +60,10 @@ fn print_entry(x: u16) {
 }
 
 // The first entries of a tree of this length, at most seven.
-fn print_front(out: &[u16], length: usize) {
+fn print_front(out: &[u16], nodes: usize) {
     let mut i = 0;
     while i < out.len() {
-        if (i == length) | (i == 7) {
+        if (i == nodes) | (i == 7) {
             return;
         }
         print_entry(out[i]);
@@ -72,23 +72,23 @@ fn print_front(out: &[u16], length: usize) {
 }
 
 // The number, the tree's length and the holder's position.
-fn print_numbers(number: u16, length: usize, holder: usize) {
+fn print_numbers(number: u16, nodes: usize, holder: usize) {
     io::write_all(1, b": ");
     io::print_decimal(1, number as u64);
     io::write_all(1, b" ");
-    io::print_decimal(1, length as u64);
+    io::print_decimal(1, nodes as u64);
     io::write_all(1, b" ");
     io::print_decimal(1, holder as u64);
 }
 
 // The rest of a line: the buffer with a tree of this length.
-fn print_buffer(out: &[u16], length: usize) {
-    if unchanged(out, length) {
+fn print_buffer(out: &[u16], nodes: usize) {
+    if unchanged(out, nodes) {
         io::write_all(1, b", unchanged behind:");
     } else {
         io::write_all(1, b", CHANGED behind:");
     }
-    print_front(out, length);
+    print_front(out, nodes);
     io::write_all(1, b"\n");
 }
 
@@ -97,9 +97,9 @@ fn show_in(label: &[u8], tree: &[u16], marks: &[u16], out: &mut [u16]) {
     io::write_all(1, label);
     let answer = gather::gather(tree, marks, out);
     match answer {
-        Gathering::Done { length, holder } => {
-            print_numbers(0, length, holder);
-            print_buffer(out, length);
+        Gathering::Done { nodes, holder } => {
+            print_numbers(0, nodes, holder);
+            print_buffer(out, nodes);
         }
         Gathering::Refused(number) => {
             print_numbers(number, 0, 0);

@@ -3,44 +3,45 @@ use mathlib.Core.Path.{_≡_, refl, sym, ap, subst, _∙_}
 use mathlib.Core.Bool.{Bool, true, false, cond}
 use mathlib.Core.List.{List, [], _∷_, _++_, append-nil}
 use mathlib.Core.Option.{some}
-use Prim.Native.Nat.{ℕ, _+_, _*_, _≤_, _<_}
+use Prim.Native.Nat.{ℕ, _*_, _≤_, _<_}
 use native.Mathlib.Omega.{arith}
 use borrow.Author.Tests.{ltb-false}
 use lib.Dec.{ltb}
 use lib.ListN.{length, take, drop, replicate, length-append}
-use Rattle.tree.specs.Tree.{postfix, size, mostNodes}
-use Rattle.tree.specs.Writing.{over, Wrote}
+use Rattle.common.specs.Answer.{done}
+use Rattle.tree.specs.Tree.{postfix, size, mostNodes, mostGroups}
+use Rattle.tree.specs.Writing.{over}
+use Rattle.tree.specs.InnerWriting.{Wrote}
 use Rattle.tree.proofs.WritingLaws.{wrote-then, wrote-as, wrote-over, take-over}
 use Rattle.tree.proofs.TreeLaws.{postfix-length}
 use Rattle.tree.proofs.GroupLaws.{groups-leaves}
 use Rattle.text.specs.Parts.{split}
 use Rattle.text.specs.Line.{line, lines, lineFeed}
 use Rattle.text.proofs.LineLaws.{lines-append}
-use Rattle.sheet.specs.Reading.{mostBytes, mostSheetNodes, State, Outcome, accepted, refused, blank, run, readWithin, reading, answer, mostGroups}
+use Rattle.sheet.specs.Reading.{mostBytes, mostSheetNodes, ReadingState, ReadingOutcome, accepted, refused, nothingRead, readLines, readWithin, reading, sheetOf}
 use Rattle.sheet.specs.declared.Sheet.{Sheet}
-use Rattle.sheet.proofs.AcceptedLaws.{accepted-sheet, answered-tree, answered-marks, number-accepted, number-refused}
-use Rattle.sheet.specs.Accepted.{Accepted}
+use Rattle.sheet.proofs.AcceptedLaws.{accepted-sheet, answered-tree, answered-marks, number-accepted, number-refused, Accepted}
 use Rattle.key.specs.Key.{NO, Key, answers, refusal, text, liftRows, heldRows, instructionRows}
 use Rattle.key.specs.Lifting.{treeAfter, liftAnswers}
-use Rattle.key.specs.Keyed.{keyBytes, KeyFor, Meets, Keys}
-use Rattle.key.specs.Inner.{liftBytes, IsList, Markable, Asked, LiftedAll, Finished, Answered}
+use Rattle.key.specs.Call.{keyBytes, KeyOf, KeyCall}
+use Rattle.key.specs.Inner.{liftBytes, IsList, Markable, Asked, LiftedAll, Finished, ReadAs, WroteKey}
 use Rattle.key.specs.declared.Progress.{Progress}
-use Rattle.key.specs.declared.Keyed.the-variants.{Written, Short}
+use Rattle.key.specs.declared.KeyAnswer.the-variants.{Written, Short}
 use Rattle.sheet.proofs.LiftLineLaws.{lifts-few}
 use Rattle.key.proofs.LiftingLaws.{after-keeps}
 use Rattle.key.proofs.GatheringLaws.{markable-keeps}
 use Rattle.key.proofs.DemandLaws.{demand-3}
 
 -- a sheet that is accepted is within the limit
-accepted-short : (s : List ℕ) (st : State) → reading s ≡ accepted st → length s ≤ mostBytes
+accepted-short : (s : List ℕ) (st : ReadingState) → reading s ≡ accepted st → length s ≤ mostBytes
 unfolding readWithin
 accepted-short s st e = go (ltb mostBytes (length s)) refl e
   where
-    go : (b : Bool) → ltb mostBytes (length s) ≡ b → cond b (refused 1 0) (run mostSheetNodes blank 0 0 (split lineFeed s)) ≡ accepted st → length s ≤ mostBytes
+    go : (b : Bool) → ltb mostBytes (length s) ≡ b → cond b (refused 1 0) (readLines mostSheetNodes nothingRead 0 0 (split lineFeed s)) ≡ accepted st → length s ≤ mostBytes
     go true q e = absurd (let z : _≡_ {A = ℕ} 0 1 = cc in omega arith)
     go false q e = ltb-false mostBytes (length s) q
 
-module _ (s : List ℕ) (st : State) (e : reading s ≡ accepted st) (A : Accepted mostSheetNodes s st) where
+module _ (s : List ℕ) (st : ReadingState) (e : reading s ≡ accepted st) (A : Accepted mostSheetNodes s st) where
   -- at most 10,000 lifts
   pub few-lifts : liftBytes * length (st .lifts) ≤ 200000
   few-lifts = omega (arith, lifts-few s (st .start) (st .lifts) (A .end) (A .asked), accepted-short s st e)
@@ -63,17 +64,17 @@ module _ (s : List ℕ) (st : State) (e : reading s ≡ accepted st) (A : Accept
 
   -- the lifts' lines, then the rest
   pub answered : {tree′ out out₁ out₂ : List ℕ} {r : Progress} {next : ℕ} → LiftedAll (A .tree) (st .lifts) tree′ r out out₁
-      → Finished (treeAfter (A .tree) (st .lifts)) (st .marks) out₁ (r .next) out₂ next → Answered st out out₂ next
+      → Finished (treeAfter (A .tree) (st .lifts)) (st .marks) out₁ (r .next) out₂ next → WroteKey st out out₂ next
   answered L F =
       record {
         key = answers (liftAnswers (A .tree) (st .lifts)) (F .held) (F .instructions);
-        answers = (A .tree, A .is, (refl, F .ends));
+        answers = (A .tree, A .is, demand-3 (A .tree) (st .marks) (st .lifts) (omega (arith, A .nodes)) (F .held) (F .instructions) (F .ends));
         wrote = wrote-as (wrote-then (L .wrote) (F .wrote)) (unfold text in sym (lines-append (liftRows (liftAnswers (A .tree) (st .lifts))) (heldRows (F .held) ++ instructionRows (F .instructions))));
         most = omega (arith, L .most, F .most, few-lifts);
       }
 
 -- ---- what `read` answers for such a sheet
-pub record IsRead (s : List ℕ) (st : State) (read : Sheet) : Type 0 where
+pub record IsRead (s : List ℕ) (st : ReadingState) (read : Sheet) : Type 0 where
   pub is : reading s ≡ accepted st
   pub has : Accepted mostSheetNodes s st
   pub list : take (read .nodes) (read .tree) ≡ postfix (has .tree)
@@ -85,8 +86,8 @@ pub record IsRead (s : List ℕ) (st : State) (read : Sheet) : Type 0 where
   pub asks : Asked s (read .start) (read .lifts) (st .lifts)
   pub few : liftBytes * read .lifts ≤ 200000
 
-answer-is : (s : List ℕ) (st : State) (e : reading s ≡ accepted st) → IsRead s st (answer (accepted st))
-unfolding answer
+answer-is : (s : List ℕ) (st : ReadingState) (e : reading s ≡ accepted st) → IsRead s st (sheetOf (accepted st))
+unfolding sheetOf
 answer-is s st e =
     let A = accepted-sheet s st e in
     record {
@@ -102,10 +103,10 @@ answer-is s st e =
       few = few-lifts s st e A;
     }
 
-pub is-read : (s : List ℕ) (st : State) (read : Sheet) → reading s ≡ accepted st → read ≡ answer (accepted st) → IsRead s st read
-is-read s st read e f = subst (IsRead s st) (sym f) (answer-is s st e)
+pub is-read : {s : List ℕ} {read : Sheet} {st : ReadingState} → ReadAs s read st → IsRead s st read
+is-read {s} {read} {st} R = subst (IsRead s st) (sym (R .answers)) (answer-is s st (R .accepts))
 
-module _ {s : List ℕ} {st : State} {read : Sheet} (I : IsRead s st read) where
+module _ {s : List ℕ} {st : ReadingState} {read : Sheet} (I : IsRead s st read) where
   -- the tree's list in its array
   pub read-copied : {zeros tree : List ℕ} {next : ℕ} → mostNodes ≤ length zeros → Wrote zeros 0 tree next (take (read .nodes) (read .tree)) → IsList (take (read .nodes) tree) (I .has .tree)
   read-copied {zeros} {tree} h w =
@@ -117,52 +118,39 @@ module _ {s : List ℕ} {st : State} {read : Sheet} (I : IsRead s st read) where
   read-marks = rw (I .marks) (marks-left s st (I .is) (I .has))
 
   pub read-answered : {tree′ out out₁ out₂ : List ℕ} {r : Progress} {next : ℕ} → LiftedAll (I .has .tree) (st .lifts) tree′ r out out₁
-      → Finished (treeAfter (I .has .tree) (st .lifts)) (take (read .marked) (read .marks)) out₁ (r .next) out₂ next → Answered st out out₂ next
+      → Finished (treeAfter (I .has .tree) (st .lifts)) (take (read .marked) (read .marks)) out₁ (r .next) out₂ next → WroteKey st out out₂ next
   read-answered L F = answered s st (I .is) (I .has) L (rw (I .marks) at F)
 
   pub read-most : {tree′ out out₁ : List ℕ} {r : Progress} → LiftedAll (I .has .tree) (st .lifts) tree′ r out out₁ → r .next ≤ 200000
   read-most L = omega (arith, L .most, I .few, I .asks .counted)
 
 -- ---- the contract of `key`
-meets : (o : Outcome) (s : List ℕ) → reading s ≡ o → (k : Key) → KeyFor o k → Meets o k
-meets (refused n l) s e k K = tt
-meets (accepted st) s e (refusal n l) K = K .2
-meets (accepted st) s e (answers done held is) K =
-    let A = accepted-sheet s st e in
-    let q : some (A .tree) ≡ some (K .0) = sym (A .is) ∙ K .1 in
-    let z : A .tree ≡ K .0 = cc in
-    (K .0, K .1, demand-3 (K .0) (st .marks) (st .lifts) (rw z at (omega-size A)) done held is (K .2))
-  where
-    omega-size : (A : Accepted mostSheetNodes s st) → size (A .tree) ≤ mostNodes
-    omega-size A = omega (arith, A .nodes)
-
-pub keys-written : (s out out′ : List ℕ) (n : ℕ) (o : Outcome) → reading s ≡ o → (k : Key) → KeyFor o k
-    → keyBytes ≤ length out → n ≤ keyBytes → Wrote out 0 out′ n (text k) → Keys s out (Written n) out′
-keys-written s out out′ n o e k K room most w = record {
+pub call-written : (s out out′ : List ℕ) (n : ℕ) (o : ReadingOutcome) → reading s ≡ o → (k : Key) → KeyOf o k
+    → keyBytes ≤ length out → n ≤ keyBytes → Wrote out 0 out′ n (text k) → KeyCall s out (Written n) out′
+call-written s out out′ n o e k K room most w = record {
   short = λ h. absurd (omega arith);
   long = λ h. record {
     key = k;
-    answers = subst (λ (x : Outcome). KeyFor x k) (sym e) K;
-    demand = subst (λ (x : Outcome). Meets x k) (sym e) (meets o s e k K);
-    answered = ap Written (let z : n ≡ length (text k) = omega (arith, w .ends) in z);
+    answers = subst (λ (x : ReadingOutcome). KeyOf x k) (sym e) K;
+    says = ap (λ (m : ℕ). some (done (m ∷ []))) (let z : n ≡ length (text k) = omega (arith, w .ends) in z);
     written = wrote-over w (omega (arith, w .ends));
   };
 }
 
-pub keys-short : (s out : List ℕ) → length out < keyBytes → Keys s out Short out
-keys-short s out h = record { short = λ _. (refl, refl); long = λ k. absurd (omega arith) }
+pub call-short : (s out : List ℕ) → length out < keyBytes → KeyCall s out Short out
+call-short s out h = record { short = λ _. (refl, refl); long = λ k. absurd (omega arith) }
 
-pub accepted-read : (s : List ℕ) (read : Sheet) → read ≡ answer (reading s) → read .number ≡ 0 → (st : State) × (reading s ≡ accepted st) × (read ≡ answer (accepted st))
+pub accepted-read : (s : List ℕ) (read : Sheet) → read ≡ sheetOf (reading s) → read .number ≡ 0 → (st : ReadingState) × ReadAs s read st
 accepted-read s read e z =
     let n = number-accepted s (ap (λ (x : Sheet). x .number) (sym e) ∙ z) in
-    (n .0, n .1, e ∙ ap answer (n .1))
+    (n .0, record { accepts = n .1; answers = e ∙ ap sheetOf (n .1) })
 
-pub keys-refused : (s out out′ : List ℕ) (n : ℕ) (read : Sheet) → read ≡ answer (reading s) → (read .number ≡ 0 → ⊥) → keyBytes ≤ length out → n ≤ keyBytes
-    → Wrote out 0 out′ n (line NO (read .number ∷ read .line ∷ [])) → Keys s out (Written n) out′
-keys-refused s out out′ n read e z room most w =
+pub call-refused : (s out out′ : List ℕ) (n : ℕ) (read : Sheet) → read ≡ sheetOf (reading s) → (read .number ≡ 0 → ⊥) → keyBytes ≤ length out → n ≤ keyBytes
+    → Wrote out 0 out′ n (line NO (read .number ∷ read .line ∷ [])) → KeyCall s out (Written n) out′
+call-refused s out out′ n read e z room most w =
     let q : reading s ≡ refused (read .number) (read .line) = rw (← e) at (number-refused s (rw e at z)) in
-    keys-written s out out′ n (refused (read .number) (read .line)) q (refusal (read .number) (read .line)) refl room most
+    call-written s out out′ n (refused (read .number) (read .line)) q (refusal (read .number) (read .line)) refl room most
     (wrote-as w (unfold text lines in sym (append-nil (line NO (read .number ∷ read .line ∷ [])))))
 
-pub keys-answered : (s out out′ : List ℕ) (n : ℕ) (st : State) → reading s ≡ accepted st → keyBytes ≤ length out → Answered st out out′ n → Keys s out (Written n) out′
-keys-answered s out out′ n st e room A = keys-written s out out′ n (accepted st) e (A .key) (A .answers) room (A .most) (A .wrote)
+pub call-answered : {s out out′ : List ℕ} {n : ℕ} {read : Sheet} {st : ReadingState} → ReadAs s read st → keyBytes ≤ length out → WroteKey st out out′ n → KeyCall s out (Written n) out′
+call-answered {s} {out} {out′} {n} {read} {st} R room A = call-written s out out′ n (accepted st) (R .accepts) (A .key) (A .answers) room (A .most) (A .wrote)

@@ -7,20 +7,20 @@ use native.Mathlib.Omega.{arith}
 use lib.ListN.{length, drop}
 use Rattle.tree.specs.Tree.{Tree, size, mostNodes, Equivalent, isIn}
 use Rattle.tree.specs.Context.{plug}
-use Rattle.tree.proofs.TreeLaws.{equivalent-refl, equivalent-sym, equivalent-trans}
+use Rattle.tree.proofs.TreeLaws.{equivalent-sym, equivalent-trans}
 use Rattle.player.specs.Limits.{registerCount, byteCount}
 use Rattle.player.specs.Instructions.{Instruction}
 use Rattle.player.specs.Patches.{rig}
 use Rattle.player.specs.Bytes.{bytes}
-use Rattle.coder.specs.Code.{code, codePlace, runFirst, runCount}
-use Rattle.coder.specs.Effects.{Every, Names, ClosedRun, LoadsApart}
-use Rattle.coder.proofs.Theorems.{thirteen-suffice, closed-run, loads-apart, code-lights}
+use Rattle.coder.specs.Code.{code, codePlace, ownCode, runFirst, runCount}
+use Rattle.coder.specs.Effects.{Every, Names, stretch, ClosedRun, LoadsApart}
+use Rattle.coder.proofs.Theorems.{thirteen-suffice, run-own, closed-run, loads-apart, code-lights}
 use Rattle.gather.specs.Gathering.{CannotBeGathered}
-use Rattle.key.specs.Key.{LiftAnswer, Held, unmarked, heldRun, cannot, answers}
+use Rattle.key.specs.Key.{Held, unmarked, heldRun, cannot}
 use Rattle.sheet.specs.Reading.{LiftLine}
 use Rattle.key.specs.Lifting.{treeAfter, liftAnswers}
-use Rattle.key.specs.Answering.{HeldCode, AnswersSheet}
-use Rattle.key.specs.Demand.{CodeOf, HolderRun, Lights, Demand3}
+use Rattle.key.specs.Demand.{HeldCode, HolderRun, Lights, Demand3}
+use Rattle.key.specs.Inner.{Ends}
 use Rattle.key.proofs.LiftingLaws.{after-keeps}
 
 differ : {X : Type 0} → _≡_ {A = ℕ} 0 1 → X
@@ -48,36 +48,29 @@ module _ (t u : Tree) (e : Equivalent t u) (marks : List ℕ) (first count : ℕ
   code-whole : code (plug (H .gathered .holder) (H .gathered .above)) 0 ≡ is
   code-whole = ap (λ (x : Tree). code x 0) (sym (H .gathered .whole)) ∙ sym (H .coded)
 
-  held-run : HolderRun (H .tree) marks is first count
+  -- what holds of the holder's run in it holds of the run that HELD names
+  of-run : (P : List Instruction → ℕ → ℕ → Type 0) → P (code (plug (H .gathered .holder) (H .gathered .above)) 0) (runFirst (H .gathered .holder) (H .gathered .above)) (runCount (H .gathered .holder) (H .gathered .above)) → P is first count
+  of-run P p = rw (H .firstIs, H .countIs) (subst (λ (x : List Instruction). P x (runFirst (H .gathered .holder) (H .gathered .above)) (runCount (H .gathered .holder) (H .gathered .above))) code-whole p)
+
+  held-run : HolderRun u marks first count is
   held-run =
       let h = H .gathered .holder in
       let c = H .gathered .above in
       record {
-        position = H .position;
-        gathered = H .gathered;
-        firstIs = H .firstIs;
-        countIs = H .countIs;
-        target = codePlace h c 0 .target;
-        closed = rw (H .firstIs, H .countIs) (subst (λ (x : List Instruction). ClosedRun x (runFirst h c) (runCount h c) (codePlace h c 0 .target)) code-whole (closed-run h c));
-        apart = rw (H .firstIs, H .countIs) (subst (λ (x : List Instruction). LoadsApart (isIn marks) x (runFirst h c) (runCount h c)) code-whole (loads-apart h c (isIn marks) (H .gathered .marked) (H .gathered .others)));
+        held = H;
+        unbroken = of-run (λ x f n. stretch x f n ≡ ownCode h c) (run-own h c);
+        closed = of-run (λ x f n. ClosedRun x f n (codePlace h c 0 .target)) (closed-run h c);
+        apart = of-run (λ x f n. LoadsApart (isIn marks) x f n) (loads-apart h c (isIn marks) (H .gathered .marked) (H .gathered .others));
       }
-
-  held-code : CodeOf u marks (heldRun first count) is
-  held-code = record {
-    tree = H .tree;
-    coded = H .coded;
-    left = λ z. absurd (omega (arith, ap (length {A = ℕ}) z));
-    equivalent = H .equivalent;
-    run = λ f c q. let a : first ≡ f = cc in let b : count ≡ c = cc in rw (← a, ← b) held-run;
-  }
 
   held-demand : (ls : List LiftLine) → u ≡ treeAfter t ls → Demand3 t marks ls (liftAnswers t ls) (heldRun first count) is
   held-demand ls same = record {
     lifts = refl;
-    coded = λ _. subst (λ (x : Tree). CodeOf x marks (heldRun first count) is) same held-code;
+    plain = λ z. absurd (omega (arith, ap (length {A = ℕ}) z));
+    marked = λ q. differ cc;
+    run = λ f c q. let a : first ≡ f = cc in let b : count ≡ c = cc in rw (← a, ← b, ← same) held-run;
     lit = λ _. held-lights;
     registers = held-registers;
-    says = (λ z. absurd (omega (arith, ap (length {A = ℕ}) z)), λ q. differ cc);
     never = λ q. differ cc;
     always = λ k C. absurd (C .never (H .tree) (H .position) (equivalent-trans e (H .equivalent)) (H .gathered));
     none = λ q. differ cc;
@@ -88,16 +81,11 @@ plain-demand t marks ls h none =
     let K = after-keeps t ls h in
     record {
       lifts = refl;
-      coded = λ _. record {
-        tree = treeAfter t ls;
-        coded = refl;
-        left = λ _. refl;
-        equivalent = equivalent-refl (treeAfter t ls);
-        run = λ f c q. differ cc;
-      };
+      plain = λ _. (refl, refl);
+      marked = λ _. none;
+      run = λ f c q. differ cc;
       lit = λ _. lights t (treeAfter t ls) (equivalent-sym (K .equivalent)) (K .most);
       registers = thirteen-suffice (treeAfter t ls) (K .most);
-      says = (λ _. refl, λ _. none);
       never = λ q. differ cc;
       always = λ k C. absurd (omega (arith, ap (length {A = ℕ}) none));
       none = λ q. differ cc;
@@ -108,19 +96,21 @@ never-demand : (t : Tree) (marks : List ℕ) (ls : List LiftLine) → size t ≤
 never-demand t marks ls h some-mark C =
     record {
       lifts = refl;
-      coded = λ n. absurd (n refl);
+      plain = λ z. absurd (omega (arith, ap (length {A = ℕ}) z));
+      marked = λ q. differ cc;
+      run = λ f c q. differ cc;
       lit = λ n. absurd (n refl);
       registers = unfold Every in tt;
-      says = (λ z. absurd (omega (arith, ap (length {A = ℕ}) z)), λ q. differ cc);
       never = λ _. never-alike (equivalent-sym (after-keeps t ls h .equivalent)) C;
       always = λ k D. refl;
       none = λ _. refl;
     }
 
--- THE THIRD DEMAND: for every tree as written within the limit, every list of marks and every list of lifts
-pub demand-3 : (t : Tree) (marks : List ℕ) (ls : List LiftLine) → size t ≤ mostNodes → (done : List LiftAnswer) (held : Held) (is : List Instruction)
-    → AnswersSheet t marks ls (answers done held is) → Demand3 t marks ls done held is
-demand-3 t marks ls h done unmarked is A = rw (A .0, A .1 .1) (plain-demand t marks ls h (A .1 .0))
-demand-3 t marks ls h done (heldRun first count) is A =
-    rw (A .0) (held-demand t (treeAfter t ls) (equivalent-sym (after-keeps t ls h .equivalent)) marks first count is (A .1 .0) (A .1 .1) ls refl)
-demand-3 t marks ls h done cannot is A = rw (A .0, A .1 .2) (never-demand t marks ls h (A .1 .0) (A .1 .1))
+-- THE THIRD DEMAND: for every tree as written within the limit, every list of marks and every list of lifts, of what the key says
+-- of the lifts and of what follows them
+pub demand-3 : (t : Tree) (marks : List ℕ) (ls : List LiftLine) → size t ≤ mostNodes → (held : Held) (is : List Instruction)
+    → Ends (treeAfter t ls) marks held is → Demand3 t marks ls (liftAnswers t ls) held is
+demand-3 t marks ls h unmarked is E = rw (E .1) (plain-demand t marks ls h (E .0))
+demand-3 t marks ls h (heldRun first count) is E =
+    held-demand t (treeAfter t ls) (equivalent-sym (after-keeps t ls h .equivalent)) marks first count is (E .0) (E .1) ls refl
+demand-3 t marks ls h cannot is E = rw (E .2) (never-demand t marks ls h (E .0) (E .1))

@@ -3,19 +3,20 @@ use mathlib.Core.Path.{_≡_, sym, ap, _∙_}
 use mathlib.Core.List.{List}
 use Prim.Native.Nat.{ℕ, _*_, _≤_}
 use native.Mathlib.Omega.{arith}
-use borrow.Author.Tests.{le-ltb}
 use lib.ListN.{length, take, drop, replicate, length-append, length-replicate}
 use Rattle.tree.specs.Tree.{Tree, size, mostNodes}
 use Rattle.tree.proofs.WritingLaws.{take-over}
-use Rattle.tree.specs.Writing.{over}
+use Rattle.tree.specs.Parse.{treeOf}
 use Rattle.tree.proofs.ParseLaws.{tree-of-postfix}
 use Rattle.text.specs.Line.{lines}
 use Rattle.player.specs.Instructions.{Instruction}
-use Rattle.player.specs.Laws.{numbers-length, instructions-numbers}
-use Rattle.coder.specs.Code.{code, codeNumbers}
+use Rattle.player.proofs.InstructionLaws.{numbers-length, instructions-numbers}
+use Rattle.coder.specs.Code.{code}
+use Rattle.coder.proofs.CodeLaws.{codeNumbers}
 use Rattle.coder.specs.Coding.{leastBuffer, Encodes}
 use Rattle.coder.specs.declared.Coded.{Coded}
 use Rattle.coder.specs.declared.Coded.the-variants.{Done, Refused}
+use Rattle.coder.proofs.CodingLaws.{EncodesTree, encodes-tree}
 use Rattle.coder.proofs.Theorems.{code-length, code-well-formed}
 use Rattle.key.specs.Key.{instructionRows}
 use Rattle.key.specs.Inner.{instructionBytes, IsList}
@@ -34,25 +35,22 @@ pub zeros-length : (n : ℕ) → n ≤ length (replicate {A = ℕ} n 0)
 zeros-length n = omega (arith, length-replicate {A = ℕ} n 0)
 
 module _ (tree out : List ℕ) (r : Coded) (after : List ℕ) (u : Tree) (w : IsList tree u) (full : leastBuffer ≤ length out) (E : Encodes tree out r after) where
-  done : r ≡ Done (size u)
-  done = E .answered ∙ rw (le-ltb (length out) leastBuffer full, w .list, tree-of-postfix u (w .most)) (ap Done (code-length u 0))
-
-  left-is : after ≡ over (codeNumbers u) out
-  left-is = E .written ∙ rw (le-ltb (length out) leastBuffer full, w .list, tree-of-postfix u (w .most))
+  of-tree : EncodesTree u out r after
+  of-tree = encodes-tree E (ap treeOf (w .list) ∙ tree-of-postfix u (w .most)) full
 
   numbers-count : length (codeNumbers u) ≡ 4 * size u
   numbers-count = omega (arith, numbers-length (code u 0), code-length u 0)
 
   text-is : codeText (take (4 * size u) after) ≡ lines (instructionRows (code u 0))
   text-is =
-      ap (λ (l : List ℕ). codeText (take (4 * size u) l)) left-is ∙ ap codeText (take-over (codeNumbers u) out (4 * size u) (sym numbers-count))
+      ap (λ (l : List ℕ). codeText (take (4 * size u) l)) (of-tree .written) ∙ ap codeText (take-over (codeNumbers u) out (4 * size u) (sym numbers-count))
       ∙ ap (λ (is : List Instruction). lines (instructionRows is)) (instructions-numbers (code u 0))
 
   long-is : 4 * size u ≤ length after
-  long-is = rw left-is (omega (arith, length-append (codeNumbers u) (drop (length (codeNumbers u)) out), numbers-count))
+  long-is = rw (of-tree .written) (omega (arith, length-append (codeNumbers u) (drop (length (codeNumbers u)) out), numbers-count))
 
   same-count : (n : ℕ) → r ≡ Done n → n ≡ size u
-  same-count n e = let f : Done n ≡ Done (size u) = sym e ∙ done in cc
+  same-count n e = let f : Done n ≡ Done (size u) = sym e ∙ of-tree .done in cc
 
   pub encoded : (n : ℕ) → r ≡ Done n → Encoded u n after
   encoded n e =
@@ -67,4 +65,4 @@ module _ (tree out : List ℕ) (r : Coded) (after : List ℕ) (u : Tree) (w : Is
 
   -- it is not refused
   pub encoded-not : {X : Type 0} (k : ℕ) → r ≡ Refused k → X
-  encoded-not k f = let e = done in absurd (let z : _≡_ {A = ℕ} 0 1 = cc in omega arith)
+  encoded-not k f = absurd (of-tree .never k f)

@@ -9,18 +9,18 @@ use lib.ListN.{length, take, drop, length-append}
 use Rattle.tree.specs.Tree.{Tree, postfix, size, mostNodes, isIn}
 use Rattle.tree.specs.Context.{plug, position}
 use Rattle.tree.specs.Parse.{treeOf, locate}
-use Rattle.tree.specs.Writing.{Wrote}
+use Rattle.tree.specs.InnerWriting.{Wrote}
 use Rattle.tree.proofs.TreeLaws.{postfix-length, size-positive}
 use Rattle.tree.proofs.ContextLaws.{locate-plug, position-most}
 use Rattle.tree.proofs.ParseLaws.{tree-of-postfix}
 use Rattle.tree.proofs.WritingLaws.{wrote-then, wrote-as, take-over}
 use Rattle.text.specs.Line.{line, lines}
 use Rattle.coder.specs.Code.{code, codePlace, runFirst, runCount}
-use Rattle.coder.specs.Coding.{IsRun}
+use Rattle.coder.specs.Coding.{runOf}
 use Rattle.coder.specs.declared.Run.{Run}
 use Rattle.coder.proofs.Theorems.{code-length, code-well-formed, closed-run}
 use Rattle.gather.specs.Gathering.{Gathered, CannotBeGathered}
-use Rattle.gather.specs.Answer.{fault, GatheredTo, GathersTree, Gathers}
+use Rattle.gather.specs.Answer.{gatherFault, GatheredTo, GathersTree, Gathers}
 use Rattle.gather.specs.declared.Gathering.{Gathering}
 use Rattle.gather.specs.declared.Gathering.the-variants.{Done, Refused}
 use Rattle.key.specs.Key.{unmarked, heldRun, cannot, HELD, instructionRows}
@@ -52,7 +52,7 @@ module _ (list marks out out′ : List ℕ) (r : Gathering) (u : Tree) (w : IsLi
     (G : Gathers list marks out out′ r) where
   gathers : GathersTree u marks out out′ r
   gathers =
-      G .gathers (ap (λ (l : List ℕ). fault l marks (length out)) (w .list) ∙ no-fault u marks (length out) (w .most) full some-mark M) u
+      G .gathers (ap (λ (l : List ℕ). gatherFault l marks (length out)) (w .list) ∙ no-fault u marks (length out) (w .most) full some-mark M) u
       (ap treeOf (w .list) ∙ tree-of-postfix u (w .most))
 
   pub gathered-never : (n : ℕ) → r ≡ Refused n → CannotBeGathered (isIn marks) u
@@ -75,7 +75,7 @@ gathered-long {u} {marks} {out} D =
     rw (D .written) (omega (arith, D .counted, postfix-length (D .result), length-append (postfix (D .result)) (drop (length (postfix (D .result))) out)))
 
 -- the run that `run_of` answers for the holder is the holder's
-module _ (g : Tree) (m : ℕ → Bool) (p : ℕ) (H : Gathered m g p) (most : size g ≤ mostNodes) (list : List ℕ) (w : list ≡ postfix g) (run : Run) (R : IsRun list p run) where
+module _ (g : Tree) (m : ℕ → Bool) (p : ℕ) (H : Gathered m g p) (most : size g ≤ mostNodes) (list : List ℕ) (w : list ≡ postfix g) (run : Run) (R : run ≡ runOf (treeOf list) p) where
   found : locate g [] p ≡ record { part = H .holder; above = H .above }
   found = rw (H .whole, H .at) (locate-plug (H .holder) (H .above))
 
@@ -83,10 +83,10 @@ module _ (g : Tree) (m : ℕ → Bool) (p : ℕ) (H : Gathered m g p) (most : si
   inside = rw (H .whole, H .at) (position-most (H .holder) (H .above))
 
   pub run-first : run .first ≡ runFirst (H .holder) (H .above)
-  run-first = R .first ∙ rw (w, tree-of-postfix g most, lt-ltb p (size g) inside, found)
+  run-first = ap (λ (x : Run). x .first) R ∙ rw (w, tree-of-postfix g most, lt-ltb p (size g) inside, found)
 
   pub run-count : run .count ≡ runCount (H .holder) (H .above)
-  run-count = R .count ∙ rw (w, tree-of-postfix g most, lt-ltb p (size g) inside, found)
+  run-count = ap (λ (x : Run). x .count) R ∙ rw (w, tree-of-postfix g most, lt-ltb p (size g) inside, found)
 
   pub run-line : length (line HELD (0 ∷ run .first ∷ run .count ∷ [])) ≤ heldBytes
   run-line =
@@ -108,7 +108,7 @@ finished-never k C w = record {
   most = omega (arith, w .ends, never-most);
 }
 
-pub finished-held : {u : Tree} {marks old new out out₁ out₂ : List ℕ} {count holder at next last : ℕ} (D : GatheredTo u marks old new count holder) (run : Run) → IsRun (take count new) holder run
+pub finished-held : {u : Tree} {marks old new out out₁ out₂ : List ℕ} {count holder at next last : ℕ} (D : GatheredTo u marks old new count holder) (run : Run) → run ≡ runOf (treeOf (take count new)) holder
     → 1 ≤ length marks → Wrote out at out₁ next (line HELD (0 ∷ run .first ∷ run .count ∷ [])) → Wrote out₁ next out₂ last (lines (instructionRows (code (D .result) 0)))
     → Finished u marks out at out₂ last
 finished-held {u} {marks} {old} {new} {out} {out₁} {out₂} {count} {holder} D run R k w v =

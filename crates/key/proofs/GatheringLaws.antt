@@ -7,12 +7,12 @@ use Prim.Native.Nat.{ℕ, _≤_}
 use native.Mathlib.Omega.{arith}
 use borrow.Author.Tests.{le-ltb, ne-eqb}
 use lib.ListN.{length}
-use Rattle.tree.specs.Tree.{Tree, postfix, size, mostNodes, isIn, Distinct, groups}
+use Rattle.tree.specs.Tree.{Tree, postfix, size, mostNodes, isIn, groups, mostGroups}
+use Rattle.tree.specs.InnerGroups.{Distinct}
 use Rattle.tree.proofs.TreeLaws.{leaves-over}
 use Rattle.tree.proofs.GroupLaws.{groups-leaves, groups-most, over-groups, is-in-here, in-later}
 use Rattle.tree.proofs.ParseLaws.{tree-of-postfix}
-use Rattle.table.specs.Table.{mostGroups}
-use Rattle.gather.specs.Answer.{badMark, fault}
+use Rattle.gather.specs.Answer.{badMark, gatherFault}
 use Rattle.lift.proofs.LiftLaws.{Keeps}
 use Rattle.key.specs.Inner.{Markable}
 
@@ -30,8 +30,8 @@ no-bad-mark gs [] d f = refl
 no-bad-mark gs (x ∷ marks) d f =
     rw (d .0, f x (is-in-here x marks), no-bad-mark gs marks (d .1) (λ g e. f g (in-later x marks g e)))
 
-pub no-fault : (u : Tree) (marks : List ℕ) (room : ℕ) → size u ≤ mostNodes → mostNodes ≤ room → 1 ≤ length marks → Markable u marks → fault (postfix u) marks room ≡ 0
-unfolding fault
+pub no-fault : (u : Tree) (marks : List ℕ) (room : ℕ) → size u ≤ mostNodes → mostNodes ≤ room → 1 ≤ length marks → Markable u marks → gatherFault (postfix u) marks room ≡ 0
+unfolding gatherFault
 no-fault u marks room h r some-mark M =
     rw (
       le-ltb room mostNodes r,

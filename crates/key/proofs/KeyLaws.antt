@@ -7,8 +7,8 @@ use Prim.Native.Nat.{ℕ}
 use lib.Dec.{eqb}
 use lib.ListN.{getD}
 use Rattle.tree.specs.Tree.{isIn}
-use Rattle.text.specs.Line.{Row, AllPlain}
-use Rattle.text.proofs.LineLaws.{lines-unique}
+use Rattle.text.specs.Line.{Row}
+use Rattle.text.proofs.LineLaws.{AllPlain, lines-unique}
 use Rattle.player.specs.Instructions.{Instruction, load, add, cut}
 use Rattle.key.specs.Key.{LiftAnswer, Held, unmarked, heldRun, cannot, Key, refusal, answers, liftRows, heldRows, instructionRows, rowsOf, text}
 

@@ -7,13 +7,12 @@ use native.Mathlib.Omega.{arith}
 use lib.ListN.{length, take}
 use Rattle.tree.specs.Tree.{Tree, mostNodes}
 use Rattle.text.specs.Line.{lines}
-use Rattle.sheet.specs.Form.{lineAt}
+use Rattle.sheet.specs.InnerLines.{lineAt, LiftRange, LiftsTo}
 use Rattle.sheet.specs.Reading.{LiftLine}
-use Rattle.sheet.specs.Accepted.{LiftRange, LiftsTo}
 use Rattle.sheet.specs.declared.Line.the-variants.{Lift}
-use Rattle.key.specs.Key.{liftRow, liftRows, rowText}
-use Rattle.key.specs.Lifting.{lifting, treeLeft, answerFor, treeAfter, liftAnswers}
-use Rattle.key.specs.Inner.{liftBytes, IsList, LiftedOne, Asked, LiftedAll}
+use Rattle.key.specs.Key.{liftRow, liftRows}
+use Rattle.key.specs.Inner.{rowText, liftBytes, IsList, LiftedOne, Asked, LiftedAll}
+use Rattle.key.specs.Lifting.{lifting, treeLeft, liftAnswer, treeAfter, liftAnswers}
 use Rattle.key.specs.declared.Progress.{Progress}
 use Rattle.key.proofs.PrintingLaws.{WroteUpTo, up-to-start, up-to-next, up-to-end}
 
@@ -60,7 +59,7 @@ unfolding LiftsTo
 next-asked sheet at n m ms A = record { end = A .end; lines = A .lines .2; counted = omega (arith, A .counted) }
 
 -- one lift more
-text-next : (t : Tree) (m : LiftLine) (ms : List LiftLine) → liftText t (m ∷ ms) ≡ rowText (liftRow (answerFor m (lifting t m))) ++ liftText (treeLeft t (lifting t m)) ms
+text-next : (t : Tree) (m : LiftLine) (ms : List LiftLine) → liftText t (m ∷ ms) ≡ rowText (liftRow (liftAnswer m (lifting t m))) ++ liftText (treeLeft t (lifting t m)) ms
 unfolding lines liftRows liftAnswers
 text-next t m ms = refl
 

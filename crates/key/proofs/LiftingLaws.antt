@@ -15,7 +15,7 @@ use Rattle.tree.specs.Parse.{locate}
 use Rattle.tree.proofs.TreeLaws.{equivalent-refl, equivalent-trans}
 use Rattle.tree.proofs.ContextLaws.{located-whole, position-most}
 use Rattle.tree.proofs.ParseLaws.{tree-of-postfix}
-use Rattle.lift.specs.Lift.{Result, refused, lifted, goesOn, steps, liftAt, liftIn, liftOf, noPosition, badLevels, tooLong}
+use Rattle.lift.specs.Lift.{Result, refused, lifted, goesOn, steps, liftAt, liftIn, liftOf}
 use Rattle.lift.specs.Step.{Outcome, stuck, moved, step}
 use Rattle.lift.proofs.LiftLaws.{Keeps, LiftKeeps, lift-keeps}
 use Rattle.lift.proofs.StepLaws.{step-looks}
@@ -93,14 +93,14 @@ steps-bounded (suc k) a c looks h = go (step c) refl (λ e n s. steps-bounded k 
         → ResultBounded (looks + suc k * mostNodes) (goesOn o a looks (λ e n. steps k a e n))
     go stuck q f = omega arith
     go (moved e n) q f =
-        bounded-if (looks + suc k * mostNodes) (ltb mostNodes (size (plug a e))) tooLong (steps k a e (looks + n)) (omega arith)
+        bounded-if (looks + suc k * mostNodes) (ltb mostNodes (size (plug a e))) 16 (steps k a e (looks + n)) (omega arith)
         (λ b. more e n (steps k a e (looks + n)) (step-looks c e n q) (f e n (ltb-false mostNodes (size (plug a e)) b)))
 
 lifting-bounded : (t : Tree) (l : LiftLine) → size t ≤ mostNodes → ResultBounded (l .levels * mostNodes) (lifting t l)
 lifting-bounded t l h =
     let s = locate t [] (l .position) in
-    bounded-if (l .levels * mostNodes) (leb (size t) (l .position)) noPosition (liftAt s (l .levels)) (omega arith)
-    (λ b. bounded-if (l .levels * mostNodes) (eqb (l .levels) 0 || leb (length (s .above)) (l .levels)) badLevels (steps (l .levels) (s .part) (s .above) 0) (omega arith)
+    bounded-if (l .levels * mostNodes) (leb (size t) (l .position)) 13 (liftAt s (l .levels)) (omega arith)
+    (λ b. bounded-if (l .levels * mostNodes) (eqb (l .levels) 0 || leb (length (s .above)) (l .levels)) 14 (steps (l .levels) (s .part) (s .above) 0) (omega arith)
     (λ d. wider (0 + l .levels * mostNodes) (l .levels * mostNodes) (omega arith) (steps (l .levels) (s .part) (s .above) 0)
     (steps-bounded (l .levels) (s .part) (s .above) 0 (rw (located-whole t (l .position) (leb-false (size t) (l .position) b)) h))))
 

@@ -6,15 +6,18 @@ use native.Mathlib.Omega.{arith}
 use native.Mathlib.Nat.{add-assoc}
 use borrow.Author.Tests.{eq-eqb, ne-eqb}
 use lib.ListN.{length, getD, drop, length-append}
-use Rattle.tree.specs.Writing.{Wrote}
+use Rattle.tree.specs.InnerWriting.{Wrote}
 use Rattle.tree.proofs.WritingLaws.{wrote-nothing, wrote-then, wrote-as}
 use Rattle.text.specs.Decimal.{digits}
-use Rattle.text.specs.Line.{line, lines, field, fieldsAfter}
+use Rattle.text.specs.Line.{line, lines}
+use Rattle.text.specs.Inner.{field, fieldsAfter}
 use Rattle.text.proofs.DecimalLaws.{digits-length}
 use Rattle.text.proofs.LineLaws.{line-length}
-use Rattle.player.specs.Instructions.{Instruction, load, add, cut, instruction, instructions, WellFormed, AllWellFormed}
-use Rattle.player.proofs.Lists.{two-at}
-use Rattle.key.specs.Key.{NO, LIFT, HELD, LOAD, ADD, CUT, instructionRow, instructionRows, rowText}
+use Rattle.player.specs.Instructions.{Instruction, load, add, cut, instruction, instructions}
+use Rattle.player.proofs.InstructionLaws.{WellFormed, AllWellFormed}
+use Rattle.common.proofs.ListLaws.{two-at}
+use Rattle.key.specs.Key.{NO, LIFT, HELD, LOAD, ADD, CUT, instructionRow, instructionRows}
+use Rattle.key.specs.Inner.{rowText}
 
 -- ---- a loop that writes a text piece by piece: so far the front of `whole` is written, and `rest` is what is left of it
 pub record WroteUpTo (whole rest out : List ℕ) (at : ℕ) (out′ : List ℕ) (next : ℕ) : Type 0 where

@@ -9,8 +9,8 @@ use Rattle.tree.specs.Pass.{entryOf, pass}
 use Rattle.tree.specs.Parse.{parse, treeOf, locate}
 use Rattle.lift.specs.Step.{step}
 use Rattle.lift.specs.Lift.{steps, liftOf}
-use Rattle.table.specs.Table.{filling, tabulate, table}
-use Rattle.gather.specs.Answer.{fault, badMark}
+use Rattle.table.specs.InnerTable.{filling, tabulate, table}
+use Rattle.gather.specs.Answer.{gatherFault, badMark}
 use Rattle.table.proofs.TableLaws.{table-law}
 use Rattle.gather.proofs.GatheringLaws.{fillings-cannot}
 use Rattle.key.specs.Samples.{Samples}
@@ -29,7 +29,7 @@ abbrev four : Tree
 four = leaf 4 tt
 
 pub samples : Samples
-unfolding liftOf steps step treeOf parse pass entryOf locate plug before postfix size fault badMark isIn collect leaves OverAbove Over selects filling tabulate table
+unfolding liftOf steps step treeOf parse pass entryOf locate plug before postfix size gatherFault badMark isIn collect leaves OverAbove Over selects filling tabulate table
 samples = record {
   i = record { answers = refl; writes = refl };
   ii = refl;

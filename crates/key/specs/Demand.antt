@@ -4,7 +4,7 @@ use mathlib.Core.Bool.{false}
 use mathlib.Core.List.{List, [], _++_}
 use Prim.Native.Nat.{ℕ, _≤_}
 use lib.ListN.{length, drop}
-use Rattle.tree.specs.Tree.{Tree, Equivalent, selected, isIn}
+use Rattle.tree.specs.Tree.{Tree, size, mostNodes, Over, Equivalent, selected, isIn, groups}
 use Rattle.player.specs.Limits.{registerCount, byteCount}
 use Rattle.player.specs.Instructions.{Instruction, numbersOf}
 use Rattle.player.specs.Patches.{rig}
@@ -12,31 +12,37 @@ use Rattle.player.specs.Bytes.{bytes}
 use Rattle.player.specs.Playing.{wrongPairCount, wrongPatch, Plays}
 use Rattle.player.specs.declared.Played.{Played}
 use Rattle.player.specs.declared.Played.the-variants.{Done}
-use Rattle.coder.specs.Code.{code, runFirst, runCount}
-use Rattle.coder.specs.Effects.{Every, Names, ClosedRun, LoadsApart}
+use Rattle.coder.specs.Code.{code, codePlace, ownCode, runFirst, runCount}
+use Rattle.coder.specs.Effects.{Every, Names, stretch, ClosedRun, LoadsApart}
 use Rattle.gather.specs.Gathering.{Gathered, CannotBeGathered}
 use Rattle.key.specs.Key.{LiftAnswer, Held, unmarked, heldRun, cannot}
 use Rattle.sheet.specs.Reading.{LiftLine}
 use Rattle.key.specs.Lifting.{treeAfter, liftAnswers}
 
--- "the marked groups that the gathered tree holds (it may drop some) are loaded in one closed run, the holder's as 01 defines it
--- and `HELD` names it, which loads no others, and nowhere else": of a tree gathered for the marks, whose code is given
-pub record HolderRun (tree : Tree) (marks : List ℕ) (is : List Instruction) (first count : ℕ) : Type 0 where
+-- "its instructions are 01's code for the tree that the list leaves, gathered where there are marks": the code of a tree gathered from
+-- u. "A tree already gathered comes back unchanged. Otherwise the tree returned is free: equivalent, gathered, over groups of the
+-- given tree only, within 8,191 nodes". `first` and `count` are the run of its holder, as 01 defines it and `HELD` names it.
+pub record HeldCode (u : Tree) (marks : List ℕ) (first count : ℕ) (is : List Instruction) : Type 0 where
+  pub tree : Tree
   pub position : ℕ
+  pub unchanged : (p : ℕ) → Gathered (isIn marks) u p → tree ≡ u
+  pub equivalent : Equivalent u tree
   pub gathered : Gathered (isIn marks) tree position
+  pub own : Over (isIn (groups u)) tree
+  pub most : size tree ≤ mostNodes
+  pub coded : is ≡ code tree 0
   pub firstIs : first ≡ runFirst (gathered .holder) (gathered .above)
   pub countIs : count ≡ runCount (gathered .holder) (gathered .above)
-  pub target : ℕ
-  pub closed : ClosedRun is first count target
-  pub apart : LoadsApart (isIn marks) is first count
 
--- "its instructions are 01's code for the tree that the list leaves, gathered where there are marks": u is what the list leaves
-pub record CodeOf (u : Tree) (marks : List ℕ) (held : Held) (is : List Instruction) : Type 0 where
-  pub tree : Tree
-  pub coded : is ≡ code tree 0
-  pub left : marks ≡ [] → tree ≡ u
-  pub equivalent : Equivalent u tree
-  pub run : (first count : ℕ) → held ≡ heldRun first count → HolderRun tree marks is first count
+-- "the marked groups that the gathered tree holds (it may drop some) are loaded in one closed run, the holder's .., which loads no
+-- others, and nowhere else": of that very tree, its holder and its code
+pub record HolderRun (u : Tree) (marks : List ℕ) (first count : ℕ) (is : List Instruction) : Type 0 where
+  pub held : HeldCode u marks first count is
+  -- "its own instructions, unbroken"
+  pub unbroken : stretch is first count ≡ ownCode (held .gathered .holder) (held .gathered .above)
+  -- it "hands on one" register, the holder's target
+  pub closed : ClosedRun is first count (codePlace (held .gathered .holder) (held .gathered .above) 0 .target)
+  pub apart : LoadsApart (isIn marks) is first count
 
 -- "Fed them, the player lights exactly the lamps that the tree as written selects, whichever lamps a patch that 01 allows gives
 -- the groups": whatever `play` answers and leaves, by its contract `Plays`
@@ -50,11 +56,13 @@ Lights t is =
 pub record Demand3 (t : Tree) (marks : List ℕ) (ls : List LiftLine) (done : List LiftAnswer) (held : Held) (is : List Instruction) : Type 0 where
   -- (a) "for every list of lifts in it, done or refused, from the tree as written"
   pub lifts : done ≡ liftAnswers t ls
-  -- (b) "Unless the key says `HELD` 19, its instructions are 01's code for the tree that the list leaves, gathered where there are marks",
-  -- and of that same tree (e) "Where there are marks, the marked groups .. are loaded in one closed run"
-  pub coded : (held ≡ cannot → ⊥) → CodeOf (treeAfter t ls) marks held is
-  -- with marks the key says `HELD`, and without marks it does not
-  pub says : (marks ≡ [] → held ≡ unmarked) × (held ≡ unmarked → marks ≡ [])
+  -- (b) "Unless the key says `HELD` 19, its instructions are 01's code for the tree that the list leaves": without marks, and then
+  -- the key does not say `HELD`
+  pub plain : marks ≡ [] → (held ≡ unmarked) × (is ≡ code (treeAfter t ls) 0)
+  -- with marks it says `HELD`; the code is that of the tree "gathered where there are marks", and of that same tree
+  -- (e) "Where there are marks, the marked groups .. are loaded in one closed run"
+  pub marked : held ≡ unmarked → marks ≡ []
+  pub run : (first count : ℕ) → held ≡ heldRun first count → HolderRun (treeAfter t ls) marks first count is
   -- (c)
   pub lit : (held ≡ cannot → ⊥) → Lights t is
   -- (d) "No register above 12 is named."

@@ -1,20 +1,29 @@
--- What the inner functions of this crate promise each other. Only their contracts cite this.
+-- What the functions of this crate ask and promise each other. Only their contracts cite this.
 use mathlib.Core.Path.{_≡_}
 use mathlib.Core.Bool.{true}
-use mathlib.Core.List.{List, _++_}
+use mathlib.Core.List.{List, [], _++_}
 use Prim.Native.Nat.{ℕ, _+_, _*_, _≤_}
 use lib.ListN.{length, take}
-use Rattle.tree.specs.Tree.{Tree, postfix, size, mostNodes, isIn, Distinct, groups}
-use Rattle.tree.specs.Writing.{Wrote}
-use Rattle.text.specs.Line.{lines}
+use Rattle.tree.specs.Tree.{Tree, postfix, size, mostNodes, mostGroups, isIn, groups}
+use Rattle.tree.specs.InnerGroups.{Distinct}
+use Rattle.tree.specs.InnerWriting.{Wrote}
+use Rattle.text.specs.Line.{Row, line, lines}
 use Rattle.player.specs.Instructions.{Instruction}
-use Rattle.sheet.specs.Reading.{LiftLine, mostGroups, State, accepted}
-use Rattle.sheet.specs.Accepted.{LiftsTo}
-use Rattle.key.specs.Key.{Held, Key, text, liftRow, liftRows, heldRows, instructionRows, rowText}
-use Rattle.key.specs.Lifting.{lifting, treeLeft, answerFor, treeAfter, liftAnswers}
-use Rattle.key.specs.Answering.{Ends}
-use Rattle.key.specs.Keyed.{keyBytes, KeyFor}
+use Rattle.coder.specs.Code.{code}
+use Rattle.gather.specs.Gathering.{CannotBeGathered}
+use Rattle.sheet.specs.Form.{mostPosition, mostLevels}
+use Rattle.sheet.specs.Reading.{LiftLine, ReadingState, accepted, reading, sheetOf}
+use Rattle.sheet.specs.InnerLines.{LiftsTo}
+use Rattle.sheet.specs.declared.Sheet.{Sheet}
+use Rattle.key.specs.Key.{Held, unmarked, heldRun, cannot, Key, text, liftRow, liftRows, heldRows, instructionRows}
+use Rattle.key.specs.Lifting.{lifting, treeLeft, liftAnswer, treeAfter, liftAnswers}
+use Rattle.key.specs.Demand.{HeldCode}
+use Rattle.key.specs.Call.{keyBytes, KeyOf}
 use Rattle.key.specs.declared.Progress.{Progress}
+
+-- a line's bytes
+abbrev pub rowText : Row → List ℕ
+rowText r = line (r .word) (r .numbers)
 
 -- bytes that a LIFT line, a HELD line, a code line have at most
 abbrev pub liftBytes : ℕ
@@ -37,13 +46,30 @@ pub record Markable (u : Tree) (marks : List ℕ) : Type 0 where
   pub once : Distinct marks
   pub among : (g : ℕ) → isIn marks g ≡ true → isIn (groups u) g ≡ true
 
+-- ---- `lift_one`
+-- the first `nodes` entries of an array are the list of a tree, and every tree has room in the array
+abbrev pub InArray : List ℕ → ℕ → Type 0
+InArray array nodes = ((t : Tree) × IsList (take nodes array) t) × (nodes ≤ length array) × (mostNodes ≤ length array)
+
+-- a lift line's numbers are in their ranges, and the line of its answer has room
+pub record LiftRoom (position levels : ℕ) (out : List ℕ) (at : ℕ) : Type 0 where
+  pub near : position ≤ mostPosition
+  pub few : levels ≤ mostLevels
+  pub room : at + liftBytes ≤ length out
+
 -- one lift in the tree t, and its line
 pub record LiftedOne (t : Tree) (l : LiftLine) (tree′ : List ℕ) (r : Progress) (out : List ℕ) (at : ℕ) (out′ : List ℕ) : Type 0 where
   pub holds : IsList (take (r .nodes) tree′) (treeLeft t (lifting t l))
   pub fits : r .nodes ≤ mostNodes
-  pub wrote : Wrote out at out′ (r .next) (rowText (liftRow (answerFor l (lifting t l))))
+  pub wrote : Wrote out at out′ (r .next) (rowText (liftRow (liftAnswer l (lifting t l))))
   pub most : r .next ≤ at + liftBytes
 
+-- .. in whichever tree the array's entries are
+abbrev pub LiftsOne : (tree : List ℕ) (nodes position levels : ℕ) (tree′ : List ℕ) (r : Progress) (out : List ℕ) (at : ℕ) (out′ : List ℕ) → Type 0
+LiftsOne tree nodes position levels tree′ r out at out′ =
+    (t : Tree) → IsList (take nodes tree) t → LiftedOne t (record { position = position; levels = levels }) tree′ r out at out′
+
+-- ---- `lift_all`
 -- the lines at `start` ask for these lifts
 pub record Asked (sheet : List ℕ) (start count : ℕ) (ls : List LiftLine) : Type 0 where
   pub end : ℕ
@@ -57,6 +83,21 @@ pub record LiftedAll (t : Tree) (ls : List LiftLine) (tree′ : List ℕ) (r : P
   pub wrote : Wrote out 0 out′ (r .next) (lines (liftRows (liftAnswers t ls)))
   pub most : r .next ≤ liftBytes * length ls
 
+abbrev pub LiftsAll : (sheet : List ℕ) (start count : ℕ) (tree : List ℕ) (nodes : ℕ) (tree′ : List ℕ) (r : Progress) (out out′ : List ℕ) → Type 0
+LiftsAll sheet start count tree nodes tree′ r out out′ =
+    (t : Tree) (ls : List LiftLine) → IsList (take nodes tree) t → Asked sheet start count ls → LiftedAll t ls tree′ r out out′
+
+-- ---- `finish` and `put_held`
+-- what follows the lifts, which leave the tree u: "with marks `HELD` ..; then the code of the tree after the lifts"
+abbrev pub Ends : Tree → List ℕ → Held → List Instruction → Type 0
+Ends u marks unmarked is = (marks ≡ []) × (is ≡ code u 0)
+Ends u marks (heldRun first count) is = (1 ≤ length marks) × HeldCode u marks first count is
+Ends u marks cannot is = (1 ≤ length marks) × CannotBeGathered (isIn marks) u × (is ≡ [])
+
+-- a tree and marks to gather in it, and room for what is written
+abbrev pub MarkedTree : (tree marks out : List ℕ) (at : ℕ) → Type 0
+MarkedTree tree marks out at = ((u : Tree) × IsList tree u × Markable u marks) × (at + heldBytes + instructionBytes * mostNodes ≤ length out)
+
 -- the HELD line, if any, and the code
 pub record Finished (u : Tree) (marks out : List ℕ) (at : ℕ) (out′ : List ℕ) (next : ℕ) : Type 0 where
   pub held : Held
@@ -65,9 +106,18 @@ pub record Finished (u : Tree) (marks out : List ℕ) (at : ℕ) (out′ : List 
   pub wrote : Wrote out at out′ next (lines (heldRows held ++ instructionRows instructions))
   pub most : next ≤ at + heldBytes + instructionBytes * mostNodes
 
+abbrev pub Finishes : (tree marks out : List ℕ) (at : ℕ) (out′ : List ℕ) (next : ℕ) → Type 0
+Finishes tree marks out at out′ next = (u : Tree) → IsList tree u → Markable u marks → Finished u marks out at out′ next
+
+-- ---- `answer_sheet`
+-- reading accepts the sheet with the state st, and answered so
+pub record ReadAs (sheet : List ℕ) (read : Sheet) (st : ReadingState) : Type 0 where
+  pub accepts : reading sheet ≡ accepted st
+  pub answers : read ≡ sheetOf (accepted st)
+
 -- the whole key of a sheet that reading accepts with the state st
-pub record Answered (st : State) (out : List ℕ) (out′ : List ℕ) (next : ℕ) : Type 0 where
+pub record WroteKey (st : ReadingState) (out out′ : List ℕ) (next : ℕ) : Type 0 where
   pub key : Key
-  pub answers : KeyFor (accepted st) key
+  pub answers : KeyOf (accepted st) key
   pub wrote : Wrote out 0 out′ next (text key)
   pub most : next ≤ keyBytes

@@ -43,10 +43,6 @@ CUT = 67 ∷ 85 ∷ 84 ∷ []
 abbrev pub row : List ℕ → List ℕ → Row
 row word numbers = record { word = word; numbers = numbers }
 
--- a line's bytes
-abbrev pub rowText : Row → List ℕ
-rowText r = line (r .word) (r .numbers)
-
 -- ---- the lines of a key
 abbrev pub liftRow : LiftAnswer → Row
 liftRow a = row LIFT (a .number ∷ a .position ∷ a .looks ∷ [])

@@ -1,7 +1,6 @@
 pub mod Key
 pub mod Lifting
-pub mod Answering
 pub mod Demand
-pub mod Keyed
+pub mod Call
 pub mod Samples
 pub mod Inner

@@ -16,9 +16,9 @@ treeLeft t (refused number) = t
 treeLeft t (lifted u position looks) = u
 
 -- "`LIFT` number position looks (number 0 if done; if refused, the line's own position and 0)"
-abbrev pub answerFor : LiftLine → Result → LiftAnswer
-answerFor l (refused number) = record { number = number; position = l .position; looks = 0 }
-answerFor l (lifted u position looks) = record { number = 0; position = position; looks = looks }
+abbrev pub liftAnswer : LiftLine → Result → LiftAnswer
+liftAnswer l (refused number) = record { number = number; position = l .position; looks = 0 }
+liftAnswer l (lifted u position looks) = record { number = 0; position = position; looks = looks }
 
 -- "The first lift gets the tree as read, each later one the tree that the lift before it left": the tree that the list leaves,
 unfoldable pub treeAfter : Tree → List LiftLine → Tree
@@ -28,4 +28,4 @@ treeAfter t (l ∷ ls) = treeAfter (treeLeft t (lifting t l)) ls
 -- and the answers, in order
 unfoldable pub liftAnswers : Tree → List LiftLine → List LiftAnswer
 liftAnswers t [] = []
-liftAnswers t (l ∷ ls) = answerFor l (lifting t l) ∷ liftAnswers (treeLeft t (lifting t l)) ls
+liftAnswers t (l ∷ ls) = liftAnswer l (lifting t l) ∷ liftAnswers (treeLeft t (lifting t l)) ls

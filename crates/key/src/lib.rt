@@ -1,20 +1,18 @@
 // The key of a sheet: its lifts in order, its marked groups gathered, its code, printed.
 ghost use mathlib.Core.Path.{_≡_};
-ghost use mathlib.Core.List.{List, _∷_, []};
+ghost use mathlib.Core.List.{List};
 ghost use Prim.Native.Nat.{ℕ, _+_, _*_, _≤_};
-ghost use lib.ListN.{length, take};
+ghost use lib.ListN.{length};
 ghost use Rattle.tree.specs.Tree.{Tree, mostNodes};
-ghost use Rattle.tree.specs.Writing.{Wrote};
+ghost use Rattle.tree.specs.InnerWriting.{Wrote};
 ghost use Rattle.text.specs.Line.{lines};
 ghost use Rattle.player.specs.Instructions.{instruction, instructions};
 ghost use Rattle.coder.specs.Code.{code as codeOf};
-ghost use Rattle.sheet.specs.Form.{mostPosition, mostLevels};
-ghost use Rattle.sheet.specs.Reading.{LiftLine, State, accepted, reading, answer};
-ghost use Rattle.sheet.specs.declared.Line.{Line as SheetLine};
+ghost use Rattle.sheet.specs.Reading.{LiftLine, ReadingState};
 ghost use Rattle.sheet.specs.declared.Line.the-variants.{Lift};
-ghost use Rattle.key.specs.Key.{instructionRow, instructionRows, rowText};
-ghost use Rattle.key.specs.Keyed.{keyBytes, Keys};
-ghost use Rattle.key.specs.Inner.{liftBytes, heldBytes, instructionBytes, IsList, Markable, LiftedOne, Asked, LiftedAll, Finished, Answered};
+ghost use Rattle.key.specs.Key.{instructionRow, instructionRows};
+ghost use Rattle.key.specs.Call.{keyBytes, KeyCall};
+ghost use Rattle.key.specs.Inner.{rowText, liftBytes, instructionBytes, IsList, InArray, LiftRoom, LiftsOne, Asked, LiftsAll, MarkedTree, Finishes, ReadAs, WroteKey};
 
 // As many bytes as every key fits in.
 pub const KEY_BYTES: usize = 306500;
@@ -27,10 +25,10 @@ fn put_instruction(kind: u16, target: u16, s: u16, t: u16, out: &mut [u8], at: u
     let a = target as usize;
     let b = s as usize;
     let c = t as usize;
-    if kind == 1 {
+    if kind == player::LOAD {
         return text::put_line(b"LOAD", &[a, b], out, at);
     }
-    if kind == 2 {
+    if kind == player::ADD {
         return text::put_line(b"ADD", &[a, b, c], out, at);
     }
     text::put_line(b"CUT", &[a, b, c], out, at)
@@ -78,23 +76,21 @@ fn lift_one(
     out: &mut [u8],
     at: usize,
 ) -> Progress
-    requires { ⌜ ((t : Tree) × IsList (take nodes (now tree)) t) × (nodes ≤ length (now tree)) × (mostNodes ≤ length (now tree)) × (position ≤ mostPosition) × (levels ≤ mostLevels) × (at + liftBytes ≤ length (now out)) ⌝ }
-    ensures { λ r. ⌜ ((t : Tree) → IsList (take nodes (now (tree .entry))) t → LiftedOne t (record { position = position; levels = levels }) (now (tree .exit)) r (now (out .entry)) at (now (out .exit))) ⌝ }
+    requires { ⌜ InArray (now tree) nodes ⌝ }
+    requires { ⌜ LiftRoom position levels (now out) at ⌝ }
+    ensures { λ r. ⌜ LiftsOne (now (tree .entry)) nodes position levels (now (tree .exit)) r (now (out .entry)) at (now (out .exit)) ⌝ }
 {
     let mut new = [0u16; tree::MOST_NODES];
     let lifted = lift::lift(&tree[..nodes], position, levels, &mut new);
     match lifted {
         lift::Lifted::Done {
-            length,
+            nodes: count,
             position: place,
             looks,
         } => {
-            tree::copy(&new[..length], tree, 0);
+            tree::copy(&new[..count], tree, 0);
             let next = text::put_line(b"LIFT", &[0, place, looks], out, at);
-            Progress {
-                nodes: length,
-                next,
-            }
+            Progress { nodes: count, next }
         }
         lift::Lifted::Refused(number) => {
             let next = text::put_line(b"LIFT", &[number as usize, position, 0], out, at);
@@ -133,8 +129,9 @@ fn lift_all(
     nodes: usize,
     out: &mut [u8],
 ) -> Progress
-    requires { ⌜ ((t : Tree) × (ls : List LiftLine) × IsList (take nodes (now tree)) t × Asked (now sheet) start count ls) × (nodes ≤ length (now tree)) × (mostNodes ≤ length (now tree)) × (liftBytes * count ≤ length (now out)) ⌝ }
-    ensures { λ r. ⌜ ((t : Tree) (ls : List LiftLine) → IsList (take nodes (now (tree .entry))) t → Asked (now (sheet .entry)) start count ls → LiftedAll t ls (now (tree .exit)) r (now (out .entry)) (now (out .exit))) ⌝ }
+    requires { ⌜ InArray (now tree) nodes ⌝ }
+    requires { ⌜ ((ls : List LiftLine) × Asked (now sheet) start count ls) × (liftBytes * count ≤ length (now out)) ⌝ }
+    ensures { λ r. ⌜ LiftsAll (now (sheet .entry)) start count (now (tree .entry)) nodes (now (tree .exit)) r (now (out .entry)) (now (out .exit)) ⌝ }
 {
     let mut at = start;
     let mut entries = nodes;
@@ -158,23 +155,23 @@ fn lift_all(
 
 // Gathers the marked groups in a tree, and writes the HELD line and the code.
 fn put_held(tree: &[u16], marks: &[u16], out: &mut [u8], at: usize) -> usize
-    requires { ⌜ ((u : Tree) × IsList (now tree) u × Markable u (now marks)) × (1 ≤ length (now marks)) × (at + heldBytes + instructionBytes * mostNodes ≤ length (now out)) ⌝ }
-    ensures { λ r. ⌜ ((u : Tree) → IsList (now (tree .entry)) u → Markable u (now (marks .entry)) → Finished u (now (marks .entry)) (now (out .entry)) at (now (out .exit)) r) ⌝ }
+    requires { ⌜ (1 ≤ length (now marks)) × MarkedTree (now tree) (now marks) (now out) at ⌝ }
+    ensures { λ r. ⌜ Finishes (now (tree .entry)) (now (marks .entry)) (now (out .entry)) at (now (out .exit)) r ⌝ }
 {
     let mut gathered = [0u16; tree::MOST_NODES];
-    let answer = gather::gather(tree, marks, &mut gathered);
-    let gather::Gathering::Done { length, holder } = answer else {
-        return text::put_line(b"HELD", &[19], out, at);
+    let verdict = gather::gather(tree, marks, &mut gathered);
+    let gather::Gathering::Done { nodes, holder } = verdict else {
+        return text::put_line(b"HELD", &[gather::CANNOT_BE_GATHERED as usize], out, at);
     };
-    let run = coder::run_of(&gathered[..length], holder);
+    let run = coder::run_of(&gathered[..nodes], holder);
     let next = text::put_line(b"HELD", &[0, run.first, run.count], out, at);
-    put_tree_code(&gathered[..length], out, next)
+    put_tree_code(&gathered[..nodes], out, next)
 }
 
 // Writes what follows the lifts.
 fn finish(tree: &[u16], marks: &[u16], out: &mut [u8], at: usize) -> usize
-    requires { ⌜ ((u : Tree) × IsList (now tree) u × Markable u (now marks)) × (at + heldBytes + instructionBytes * mostNodes ≤ length (now out)) ⌝ }
-    ensures { λ r. ⌜ ((u : Tree) → IsList (now (tree .entry)) u → Markable u (now (marks .entry)) → Finished u (now (marks .entry)) (now (out .entry)) at (now (out .exit)) r) ⌝ }
+    requires { ⌜ MarkedTree (now tree) (now marks) (now out) at ⌝ }
+    ensures { λ r. ⌜ Finishes (now (tree .entry)) (now (marks .entry)) (now (out .entry)) at (now (out .exit)) r ⌝ }
 {
     if marks.len() == 0 {
         return put_tree_code(tree, out, at);
@@ -184,8 +181,8 @@ fn finish(tree: &[u16], marks: &[u16], out: &mut [u8], at: usize) -> usize
 
 // The key of a sheet that reading accepts.
 fn answer_sheet(sheet: &[u8], read: sheet::Sheet, out: &mut [u8]) -> usize
-    requires { ⌜ ((st : State) × (reading (now sheet) ≡ accepted st) × (read ≡ answer (accepted st))) × (keyBytes ≤ length (now out)) ⌝ }
-    ensures { λ r. ⌜ ((st : State) → reading (now (sheet .entry)) ≡ accepted st → read ≡ answer (accepted st) → Answered st (now (out .entry)) (now (out .exit)) r) ⌝ }
+    requires { ⌜ ((st : ReadingState) × ReadAs (now sheet) read st) × (keyBytes ≤ length (now out)) ⌝ }
+    ensures { λ r. ⌜ ((st : ReadingState) → ReadAs (now (sheet .entry)) read st → WroteKey st (now (out .entry)) (now (out .exit)) r) ⌝ }
 {
     let mut tree = [0u16; tree::MOST_NODES];
     let entries = read.tree;
@@ -199,24 +196,24 @@ fn answer_sheet(sheet: &[u8], read: sheet::Sheet, out: &mut [u8]) -> usize
 }
 
 // The key was written, of so many bytes; or the buffer is too short for some key.
-pub enum Keyed {
+pub enum KeyAnswer {
     Written(usize),
     Short,
 }
 
 // Writes the key of a sheet of any bytes into `out`.
-pub fn key(sheet: &[u8], out: &mut [u8]) -> Keyed
-    ensures { λ r. ⌜ Keys (now (sheet .entry)) (now (out .entry)) r (now (out .exit)) ⌝ }
+pub fn key(sheet: &[u8], out: &mut [u8]) -> KeyAnswer
+    ensures { λ r. ⌜ KeyCall (now (sheet .entry)) (now (out .entry)) r (now (out .exit)) ⌝ }
 {
     if out.len() < KEY_BYTES {
-        return Keyed::Short;
+        return KeyAnswer::Short;
     }
     let read = sheet::read(sheet);
     let number = read.number;
     if number != 0 {
         let next = text::put_line(b"NO", &[number as usize, read.line], out, 0);
-        return Keyed::Written(next);
+        return KeyAnswer::Written(next);
     }
     let next = answer_sheet(sheet, read, out);
-    Keyed::Written(next)
+    KeyAnswer::Written(next)
 }

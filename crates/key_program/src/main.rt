@@ -5,10 +5,10 @@ const MOST_INPUT: usize = 60001;
 
 fn main() {
     let mut sheet = [0u8; MOST_INPUT];
-    let length = io::read_full(0, &mut sheet);
+    let count = io::read_full(0, &mut sheet);
     let mut out = [0u8; key::KEY_BYTES];
-    let answer = key::key(&sheet[..length], &mut out);
-    let key::Keyed::Written(count) = answer else {
+    let answer = key::key(&sheet[..count], &mut out);
+    let key::KeyAnswer::Written(count) = answer else {
         return;
     };
     print(&out, count);

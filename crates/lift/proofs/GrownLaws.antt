@@ -6,10 +6,10 @@ use native.Mathlib.Omega.{arith}
 use lib.ListN.{length}
 use Rattle.tree.specs.Tree.{Operator, Tree, node, postfix, size}
 use Rattle.tree.specs.Context.{Side, left, right, Frame, frame, sided, plug, before}
-use Rattle.tree.specs.Part.{Part, aboveOf, kindOf}
+use Rattle.tree.specs.InnerPart.{Part, aboveOf, kindOf}
 use Rattle.tree.proofs.PartLaws.{part-length, part-own, before-right}
-use Rattle.lift.specs.Words.{cut, Range}
-use Rattle.lift.specs.Steps.{framedAs}
+use Rattle.moves.specs.InnerWords.{cut, Range}
+use Rattle.lift.specs.InnerSteps.{framedAs}
 use Rattle.lift.specs.declared.Stretch.{Stretch}
 use Rattle.lift.specs.declared.Framed.the-variants.{Under}
 

@@ -8,9 +8,10 @@ use borrow.Author.Tests.{le-leb, lt-leb}
 use lib.Dec.{leb}
 use lib.ListN.{length, getD, drop, drop-of-length-le}
 use Rattle.tree.specs.Tree.{Operator, union, Tree, leaf, node, sign, postfix}
-use Rattle.tree.specs.Context.{left, right, Frame, frame, after}
-use Rattle.tree.specs.Part.{Part}
-use Rattle.tree.specs.Scan.{isOperator}
+use Rattle.tree.specs.Context.{left, right, Frame, frame}
+use Rattle.tree.specs.InnerPart.{Part}
+use Rattle.tree.specs.InnerScan.{isOperator}
+use Rattle.tree.proofs.ContextLaws.{after}
 use Rattle.tree.proofs.PassLaws.{here}
 use Rattle.tree.proofs.ScanLaws.{operator-sign, operator-leaf}
 use Rattle.tree.proofs.PartLaws.{part-drop}

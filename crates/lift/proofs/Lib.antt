@@ -1,12 +1,7 @@
 -- The laws of the definitions in specs/, for this crate and those above it.
-pub mod Cases
-pub mod MoveLaws
 pub mod StepLaws
 pub mod NextStateLaws
 pub mod LiftLaws
-pub mod TableLaws
-pub mod WordLaws
-pub mod ReplaceLaws
 pub mod GrownLaws
 pub mod PlanLaws
 pub mod StepAnswerLaws

@@ -15,7 +15,10 @@ use Rattle.tree.proofs.TreeLaws.{equivalent-trans, equivalent-refl, selects-equ
 use Rattle.tree.proofs.ContextLaws.{located-whole}
 use Rattle.tree.proofs.ParseLaws.{tree-of-sound, tree-of-postfix}
 use Rattle.lift.specs.Step.{Outcome, stuck, moved, step}
-use Rattle.lift.specs.Lift.{Result, refused, lifted, goesOn, steps, liftAt, liftIn, liftOf, shortBuffer, noPosition, badLevels, tooLong}
+use Rattle.lift.specs.Lift.{Result, refused, lifted, goesOn, steps, liftAt, liftIn, liftOf}
+use Rattle.lift.specs.Answer.{liftedSays, resultSays, Lifts}
+use Rattle.lift.specs.declared.Lifted.{Lifted}
+use Rattle.lift.specs.declared.Lifted.the-variants.{Done, Refused}
 use Rattle.lift.proofs.StepLaws.{step-selects, step-over, step-over-back}
 
 -- the tree u keeps of the tree t what it selects in every rig and the groups of its leaves, and is within the limit
@@ -49,7 +52,7 @@ steps-keep (suc k) t a c n K = go (λ e m. steps-keep k t a e m) (step c) refl
     go : ((e : List Frame) (m : ℕ) → Keeps t (plug a e) → Kept t (steps k a e m)) → (o : Outcome) → step c ≡ o → Kept t (goesOn o a n (λ e m. steps k a e m))
     go f stuck h = tt
     go f (moved e m) h =
-        kept-if t (ltb mostNodes (size (plug a e))) tooLong (steps k a e (n + m))
+        kept-if t (ltb mostNodes (size (plug a e))) 16 (steps k a e (n + m))
         (λ b. f e (n + m) (step-keeps t a c e m h K (ltb-false mostNodes (size (plug a e)) b)))
 
 -- the whole call, of a list l
@@ -61,9 +64,9 @@ pub record LiftKeeps (l : List ℕ) (u : Tree) : Type 0 where
 
 lift-in-keeps : (t : Tree) (p k : ℕ) → size t ≤ mostNodes → Kept t (liftIn (some t) p k)
 lift-in-keeps t p k s =
-    kept-if t (leb (size t) p) noPosition (liftAt (locate t [] p) k)
+    kept-if t (leb (size t) p) 13 (liftAt (locate t [] p) k)
     (λ b. let e : plug (locate t [] p .part) (locate t [] p .above) ≡ t = located-whole t p (leb-false (size t) p b) in
-    kept-if t (eqb k 0 || leb (length (locate t [] p .above)) k) badLevels (steps k (locate t [] p .part) (locate t [] p .above) 0)
+    kept-if t (eqb k 0 || leb (length (locate t [] p .above)) k) 14 (steps k (locate t [] p .part) (locate t [] p .above) 0)
     (λ d. steps-keep k t (locate t [] p .part) (locate t [] p .above) 0
     (subst (Keeps t) (sym e) (record { equivalent = equivalent-refl t; over = λ m o. o; over-back = λ m o. o; most = s }))))
 
@@ -71,7 +74,7 @@ pub lift-keeps : (room : ℕ) (l : List ℕ) (p k : ℕ) (u : Tree) (p′ n : �
 unfolding liftOf
 lift-keeps room l p k u p′ n h = go (ltb room mostNodes) (treeOf l) refl h
   where
-    go : (b : Bool) (o : Option Tree) → treeOf l ≡ o → cond b (refused shortBuffer) (liftIn o p k) ≡ lifted u p′ n → LiftKeeps l u
+    go : (b : Bool) (o : Option Tree) → treeOf l ≡ o → cond b (refused 11) (liftIn o p k) ≡ lifted u p′ n → LiftKeeps l u
     go true o e q = absurd (let z : _≡_ {A = ℕ} 0 1 = cc in omega arith)
     go false none e q = absurd (let z : _≡_ {A = ℕ} 0 1 = cc in omega arith)
     go false (some t) e q =
@@ -79,3 +82,17 @@ lift-keeps room l p k u p′ n h = go (ltb room mostNodes) (treeOf l) refl h
         let same : W .tree ≡ t = (let z : some (W .tree) ≡ some t = sym (W .is) ∙ e in cc) in
         let K : Keeps t u = subst (Kept t) q (lift-in-keeps t p k (subst (λ (x : Tree). size x ≤ mostNodes) same (W .most))) in
         record { tree = t; given = e; keeps = K; new = tree-of-postfix u (K .most) }
+
+-- ---- the answer itself, for callers
+abbrev pub liftReply : Result → Lifted
+liftReply (refused number) = Refused number
+liftReply (lifted u position looks) = Done (size u) position looks
+
+pub lifts-reply : {x : Result} {out : List ℕ} {r : Lifted} {out′ : List ℕ} → Lifts x out r out′ → r ≡ liftReply x
+lifts-reply {x} {out} {r} L = go x r (L .says)
+  where
+    go : (x : Result) (r : Lifted) → liftedSays r ≡ resultSays x → r ≡ liftReply x
+    go (refused number) (Refused m) e = cc
+    go (refused number) (Done nodes position looks) e = absurd (let z : _≡_ {A = ℕ} 0 1 = cc in omega arith)
+    go (lifted u position looks) (Refused m) e = absurd (let z : _≡_ {A = ℕ} 0 1 = cc in omega arith)
+    go (lifted u position looks) (Done nodes p n) e = cc

@@ -7,10 +7,11 @@ use Prim.Native.Nat.{ℕ}
 use lib.Dec.{T, eqb, eqb→eq}
 use Rattle.tree.specs.Tree.{Operator, union, difference, Tree}
 use Rattle.tree.specs.Context.{Side, left, right, Frame, frame}
-use Rattle.lift.specs.Moves.{State, state9, Move, replaceT, replaceTWithD, passOnUnlessB, moveOf, stateOf, inputOf, nextState}
+use Rattle.moves.specs.Moves.{State, state9, Move, replaceT, replaceTWithD, passOnUnlessB, moveOf, stateOf, inputOf, nextState}
+use Rattle.moves.specs.InnerEntries.{stateNumber}
+use Rattle.moves.proofs.Cases.{allKinds, at-kind}
 use Rattle.lift.specs.Step.{Outcome, stuck, moved, step, stepBy, passedOn}
-use Rattle.lift.specs.Standing.{stateNumber, StateIs}
-use Rattle.lift.proofs.Cases.{allKinds, at-kind}
+use Rattle.lift.specs.InnerStanding.{StateIs}
 
 -- after the step A has this state
 abbrev has : List Frame → State → Bool
@@ -96,7 +97,8 @@ has-state [] x t = tt
 has-state (f ∷ []) x t = tt
 has-state (frame s o b ∷ (frame t q c ∷ r)) x h = sym (eqb→eq (stateNumber (stateOf s o t q)) (stateNumber x) h)
 
--- A's state after a step, where it has one
+-- "The state after a step, under inputs a b c d": in all 36 cases, nine states by four inputs, the state that Table 10 gives is A's state in the
+-- tree after the step, where A then has a grandparent
 pub next-state : (s : Side) (o : Operator) (t : Side) (q : Operator) (u : Side) (w : Operator) (b c d : Tree) (r e : List Frame) (n : ℕ)
     → step (frame s o b ∷ (frame t q c ∷ (frame u w d ∷ r))) ≡ moved e n → StateIs e (stateNumber (nextState (stateOf s o t q) (inputOf u w)))
 next-state s o t q u w b c d r e n h =

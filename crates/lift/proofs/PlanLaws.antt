@@ -1,35 +1,25 @@
 -- What the frames that were looked up say of the step.
 use mathlib.Core.Path.{_≡_, refl, sym, ap, subst, _∙_}
 use mathlib.Core.List.{List, [], _∷_, _++_}
+use mathlib.Core.Bool.{Bool, true, false, not, _&&_, false≢true}
 use Prim.Native.Nat.{ℕ, _-_, _≤_, _<_}
 use native.Mathlib.Omega.{arith}
-use mathlib.Core.Bool.{Bool, true, false, not, _&&_, false≢true}
 use borrow.Author.Tests.{eqb-true, eqb-false, eq-eqb}
 use lib.Dec.{eqb}
 use lib.ListN.{length}
 use Rattle.tree.specs.Tree.{Operator, union, difference, Tree, node}
 use Rattle.tree.specs.Context.{Side, left, right, Frame, frame, sided}
-use Rattle.tree.specs.Part.{aboveOf, kindOf}
-use Rattle.lift.specs.Moves.{State, state1, state2, state3, state4, state5, state6, state7, state8, state9, Input, inputA, moveOf, stateOf, inputOf, framesOf}
+use Rattle.tree.specs.InnerPart.{aboveOf, kindOf}
+use Rattle.moves.specs.Moves.{State, state1, state2, state3, state4, state5, state6, state7, state8, state9, Input, inputA, moveOf, stateOf, inputOf, framesOf}
+use Rattle.moves.specs.InnerEntries.{stateNumber, entryOf}
+use Rattle.moves.proofs.TableLaws.{kind-input}
 use Rattle.lift.specs.Step.{Outcome, stuck, moved, step, stepBy, passedOn}
-use Rattle.lift.specs.Standing.{stateNumber, inputNumber, StateIs, inputAbove}
-use Rattle.lift.specs.Steps.{entryOf, framedAs, UpIs, HereIs}
+use Rattle.lift.specs.InnerStanding.{StateIs, inputAbove}
+use Rattle.lift.specs.InnerSteps.{framedAs, UpIs, HereIs}
 use Rattle.lift.specs.declared.Stretch.{Stretch}
 use Rattle.lift.specs.declared.Framed.the-variants.{Root}
 use Rattle.lift.specs.declared.Node.{Node}
 use Rattle.lift.proofs.GrownLaws.{Grown}
-
-pub kind-small : (s : Side) (o : Operator) → kindOf s o < 4
-kind-small left union = omega arith
-kind-small left difference = omega arith
-kind-small right union = omega arith
-kind-small right difference = omega arith
-
-pub kind-input : (s : Side) (o : Operator) → kindOf s o ≡ inputNumber (inputOf s o)
-kind-input left union = refl
-kind-input left difference = refl
-kind-input right union = refl
-kind-input right difference = refl
 
 pub is-nil : (f t : ℕ) (c : List Frame) → Root ≡ framedAs (aboveOf f t c) → c ≡ []
 unfolding aboveOf

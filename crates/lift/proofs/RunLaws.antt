@@ -10,24 +10,26 @@ use lib.ListN.{length, take}
 use lib.Seq.{length-take-le}
 use Rattle.tree.specs.Tree.{Tree, size, postfix, mostNodes}
 use Rattle.tree.specs.Context.{Frame, frame, plug, before, position}
-use Rattle.tree.specs.Writing.{over, Wrote}
+use Rattle.tree.specs.Writing.{over}
+use Rattle.tree.specs.InnerWriting.{Wrote}
 use Rattle.tree.proofs.TreeLaws.{postfix-length}
 use Rattle.tree.proofs.PartLaws.{part-length}
 use Rattle.tree.proofs.WritingLaws.{wrote-over, take-over}
-use Rattle.lift.specs.Moves.{State, Input, stateOf, inputOf, nextState}
+use Rattle.moves.specs.Moves.{State, Input, stateOf, inputOf, nextState}
+use Rattle.moves.specs.InnerEntries.{stateNumber, inputNumber}
+use Rattle.moves.proofs.TableLaws.{state-range, kind-small, kind-input}
 use Rattle.lift.specs.Step.{Outcome, stuck, moved, step}
-use Rattle.lift.specs.Standing.{stateNumber, inputNumber, StateIs, inputAbove, Standing}
-use Rattle.lift.specs.Steps.{stepAnswer, stepBuffer, StepIs}
-use Rattle.lift.specs.Lift.{Result, refused, lifted, goesOn, steps, noStep, tooLong}
-use Rattle.lift.specs.Answer.{answer, buffer, Answers}
+use Rattle.lift.specs.InnerStanding.{StateIs, inputAbove, Standing}
+use Rattle.lift.specs.InnerSteps.{stepAnswer, stepBuffer, StepIs}
+use Rattle.lift.specs.Lift.{Result, refused, lifted, goesOn, steps}
+use Rattle.lift.specs.Answer.{liftedSays, resultSays, liftBuffer, Lifts}
 use Rattle.lift.specs.declared.Node.{Node}
 use Rattle.lift.specs.declared.Stepped.the-variants as stepped
 use Rattle.lift.specs.declared.Lifted.{Lifted}
 use Rattle.lift.specs.declared.Lifted.the-variants.{Done, Refused}
 use Rattle.lift.proofs.StepLaws.{step-level, step-looks}
 use Rattle.lift.proofs.NextStateLaws.{next-state}
-use Rattle.lift.proofs.PlanLaws.{kind-small, kind-input}
-use Rattle.lift.proofs.StepAnswerLaws.{state-range, after-long, plug-long}
+use Rattle.lift.proofs.StepAnswerLaws.{after-long, plug-long}
 
 -- ---- the state
 pub state-bounds : (c : List Frame) (s : ℕ) → StateIs c s → 1 < length c → (1 ≤ s) × (s ≤ 9)
@@ -148,26 +150,26 @@ module _ {l : List ℕ} {n : Node} {a : Tree} {c : List Frame} (S : Standing l n
   pub goes-on : (k looks : ℕ) → (k ≡ 0 → ⊥) → steps k a c looks ≡ steps (k - 1) a (done .e) (looks + m)
   goes-on k looks h =
       steps-one k a c looks h ∙ ap (λ (o : Outcome). goesOn o a looks (λ e m. steps (k - 1) a e m)) (done .is)
-      ∙ ap (λ (b : Bool). cond b (refused tooLong) (steps (k - 1) a (done .e) (looks + m))) (le-ltb mostNodes (size (plug a (done .e))) (done .short))
+      ∙ ap (λ (b : Bool). cond b (refused 16) (steps (k - 1) a (done .e) (looks + m))) (le-ltb mostNodes (size (plug a (done .e))) (done .short))
 
-answers-as : {x y : Result} {out : List ℕ} {r : Lifted} {out′ : List ℕ} → x ≡ y → r ≡ answer y → out′ ≡ buffer y out → Answers x out r out′
-answers-as {x} {y} {out} e p q = record { answers = p ∙ sym (ap answer e); leaves = q ∙ sym (ap (λ (z : Result). buffer z out) e) }
+says-as : {x y : Result} {out : List ℕ} {r : Lifted} {out′ : List ℕ} → x ≡ y → liftedSays r ≡ resultSays y → out′ ≡ liftBuffer y out → Lifts x out r out′
+says-as {x} {y} {out} e p q = record { says = p ∙ sym (ap resultSays e); leaves = q ∙ sym (ap (λ (z : Result). liftBuffer z out) e) }
 
 module _ (a : Tree) (c : List Frame) (k looks : ℕ) (h : k ≡ 0 → ⊥) (out : List ℕ) where
-  pub stops : step c ≡ stuck → Answers (steps k a c looks) out (Refused noStep) out
-  stops s = answers-as (steps-one k a c looks h ∙ ap (λ (o : Outcome). goesOn o a looks (λ e m. steps (k - 1) a e m)) s) refl refl
+  pub stops : step c ≡ stuck → Lifts (steps k a c looks) out (Refused 15) out
+  stops s = says-as (steps-one k a c looks h ∙ ap (λ (o : Outcome). goesOn o a looks (λ e m. steps (k - 1) a e m)) s) refl refl
 
-  pub grows-too-long : LongIs a (step c) → Answers (steps k a c looks) out (Refused tooLong) out
+  pub grows-too-long : LongIs a (step c) → Lifts (steps k a c looks) out (Refused 16) out
   grows-too-long L =
-      answers-as
+      says-as
       (steps-one k a c looks h ∙ ap (λ (o : Outcome). goesOn o a looks (λ e m. steps (k - 1) a e m)) (L .is)
-      ∙ ap (λ (b : Bool). cond b (refused tooLong) (steps (k - 1) a (L .e) (looks + L .m))) (lt-ltb mostNodes (size (plug a (L .e))) (L .long))) refl refl
+      ∙ ap (λ (b : Bool). cond b (refused 16) (steps (k - 1) a (L .e) (looks + L .m))) (lt-ltb mostNodes (size (plug a (L .e))) (L .long))) refl refl
 
 -- the last turn, where the list is copied
 pub ends : (x : List ℕ) (len : ℕ) (n : Node) (a : Tree) (c : List Frame) (k looks r : ℕ) (out out′ : List ℕ) → Standing (take len x) n a c → len ≤ length x → len ≤ length out → k ≡ 0
-    → Wrote out 0 out′ r (take len x) → Answers (steps k a c looks) out (Done len (n .to - 1) looks) out′
+    → Wrote out 0 out′ r (take len x) → Lifts (steps k a c looks) out (Done len (n .to - 1) looks) out′
 ends x len n a c k looks r out out′ S h g z W =
     let q : len ≡ size (plug a c) = sym (length-take-le len x h) ∙ ap length (S .part .whole) ∙ postfix-length (plug a c) in
     let v : n .to - 1 ≡ position a c = omega (arith, S .part .begins, S .part .ends) in
     let u : steps 0 a c looks ≡ lifted (plug a c) (position a c) looks = unfold steps in refl in
-    answers-as (ap (λ (j : ℕ). steps j a c looks) z ∙ u) (cc (q, v)) (wrote-over W (omega (arith, length-take-le len x h)) ∙ ap (λ (y : List ℕ). over y out) (S .part .whole))
+    says-as (ap (λ (j : ℕ). steps j a c looks) z ∙ u) (cc (q, v)) (wrote-over W (omega (arith, length-take-le len x h)) ∙ ap (λ (y : List ℕ). over y out) (S .part .whole))

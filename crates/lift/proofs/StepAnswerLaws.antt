@@ -1,72 +1,43 @@
 -- A step's answer and its buffer, from its plan.
 use mathlib.Core.Path.{_≡_, refl, sym, ap, subst, _∙_}
-use mathlib.Core.Bool.{Bool, true, false, cond, _&&_}
+use mathlib.Core.Bool.{Bool, true, false, cond}
 use mathlib.Core.List.{List, [], _∷_, _++_}
 use Prim.Native.Nat.{ℕ, zero, suc, _+_, _-_, _≤_, _<_}
 use native.Mathlib.Omega.{arith}
 use borrow.Author.Tests.{ltb-false}
-use lib.Dec.{T, ltb}
+use lib.Dec.{ltb}
 use lib.ListN.{length, drop, replicate, length-append}
 use Rattle.tree.specs.Tree.{Operator, Tree, node, postfix, size, mostNodes}
-use Rattle.tree.specs.Context.{Side, left, right, Frame, frame, sided, plug, before, after}
-use Rattle.tree.proofs.TreeLaws.{and-left, and-right, postfix-length}
-use Rattle.tree.proofs.ContextLaws.{postfix-plug, plug-append, size-plug}
+use Rattle.tree.specs.Context.{Side, left, right, Frame, frame, sided, plug, before}
+use Rattle.tree.proofs.ContextLaws.{after, postfix-plug, plug-append, size-plug}
+use Rattle.tree.proofs.TreeLaws.{postfix-length}
 use Rattle.tree.proofs.PartLaws.{part-take, part-drop, part-length, part-own, before-right, after-left, after-right}
-use Rattle.lift.specs.Moves.{State, state1, state2, state3, state4, state5, state6, state7, state8, state9, Input, inputA, inputB, inputC, inputD, Formula, moveOf, value, framesOf}
+use Rattle.moves.specs.Moves.{Formula, moveOf, value, framesOf}
+use Rattle.moves.specs.InnerWords.{word, padded, blank, Range, Within, spell, leading, replaced}
+use Rattle.moves.specs.InnerEntries.{entryOf}
+use Rattle.moves.specs.declared.Replacement.{Replacement}
+use Rattle.moves.specs.declared.Replacement.the-variants as replacement
+use Rattle.moves.specs.InnerReplacing.{bufferFor, EntryReplaced}
+use Rattle.moves.proofs.MoveLaws.{plug-frames, once-entry}
+use Rattle.moves.proofs.WordLaws.{Parts, spell-word, spell-padded, before-append, before-frames}
+use Rattle.moves.proofs.TableLaws.{state-range, input-range}
 use Rattle.lift.specs.Step.{Outcome, stuck, moved, passedOn, step}
-use Rattle.lift.specs.Words.{word, padded, blank, Range, Within, spell, leading, replaced}
-use Rattle.lift.specs.Standing.{stateNumber, inputNumber, inputAbove, Standing}
-use Rattle.lift.specs.Steps.{entryOf, UpIs, HereIs, answerFor, bufferFor, Replaced, stepAnswer, stepBuffer, StepIs, passedAnswer, Small}
+use Rattle.lift.specs.InnerStanding.{inputAbove, Standing}
+use Rattle.lift.specs.InnerSteps.{UpIs, HereIs, answerFor, oneLook, stepAnswer, stepBuffer, StepIs, passedAnswer, Small}
 use Rattle.lift.specs.declared.Node.{Node}
 use Rattle.lift.specs.declared.Stretch.{Stretch}
 use Rattle.lift.specs.declared.Stepped.{Stepped}
 use Rattle.lift.specs.declared.Stepped.the-variants.{Stuck, TooLong, Done}
-use Rattle.lift.proofs.MoveLaws.{once, plug-frames}
 use Rattle.lift.proofs.StepLaws.{step-looks}
-use Rattle.lift.proofs.WordLaws.{Parts, spell-word, spell-padded, before-append, before-frames}
 
 -- ---- no step
 pub no-step : (a : Tree) (c : List Frame) (out : List ℕ) → step c ≡ stuck → StepIs a c out Stuck out
 no-step a c out e = record { answers = sym (ap (stepAnswer a (inputAbove c)) e); leaves = sym (ap (λ (o : Outcome). stepBuffer a o out) e) }
 
 -- ---- the step replaces a stretch
-abbrev under-all : (Input → Bool) → Bool
-under-all f = (f inputA && f inputB) && (f inputC && f inputD)
-
-at-input : (f : Input → Bool) → T (under-all f) → (i : Input) → T (f i)
-at-input f t inputA = and-left (f inputA) _ (and-left (f inputA && f inputB) _ t)
-at-input f t inputB = and-right (f inputA) _ (and-left (f inputA && f inputB) _ t)
-at-input f t inputC = and-left (f inputC) _ (and-right (f inputA && f inputB) _ t)
-at-input f t inputD = and-right (f inputC) _ (and-right (f inputA && f inputB) _ t)
-
--- each entry names A once
-once-entry : (x : State) (i : Input) → T (once (entryOf (moveOf x) i))
-once-entry state1 i = tt
-once-entry state2 i = tt
-once-entry state3 i = tt
-once-entry state4 i = tt
-once-entry state5 i = at-input (λ i. once (entryOf (moveOf state5) i)) tt i
-once-entry state6 i = at-input (λ i. once (entryOf (moveOf state6) i)) tt i
-once-entry state7 i = at-input (λ i. once (entryOf (moveOf state7) i)) tt i
-once-entry state8 i = at-input (λ i. once (entryOf (moveOf state8) i)) tt i
-once-entry state9 i = tt
-
-pub state-range : (x : State) → (1 ≤ stateNumber x) × (stateNumber x ≤ 9)
-state-range state1 = omega arith
-state-range state2 = omega arith
-state-range state3 = omega arith
-state-range state4 = omega arith
-state-range state5 = omega arith
-state-range state6 = omega arith
-state-range state7 = omega arith
-state-range state8 = omega arith
-state-range state9 = omega arith
-
-input-range : (i : Input) → inputNumber i < 4
-input-range inputA = omega arith
-input-range inputB = omega arith
-input-range inputC = omega arith
-input-range inputD = omega arith
+look-if : (b : Bool) (n f i : ℕ) → oneLook (cond b replacement.TooLong (replacement.Done n f)) i ≡ cond b TooLong (Done n f 1 i)
+look-if true n f i = refl
+look-if false n f i = refl
 
 abbrev four : ℕ → ℕ → ℕ → ℕ → List ℕ
 four w x y z = w ∷ x ∷ y ∷ z ∷ []
@@ -114,12 +85,15 @@ module _ {l : List ℕ} {n : Node} {c : List Frame} {input : ℕ} {atB atC atD w
         ∙ ap (λ (x : List ℕ). length (before (H .r)) + length x) (sym (before-frames l from to a (H .b) (H .c′) (H .d) parts p (once-entry (H .at-state) (H .at-input)) (replicate (13 - length (word p)) blank)))
         ∙ sym (length-append (before (H .r)) (before e)) ∙ ap length (sym (before-append e (H .r)))
 
-    pub replaces-here : {out : List ℕ} {r : Stepped} {out′ : List ℕ}
-        → ((x : State) (i : Input) → n .state ≡ stateNumber x → input ≡ inputNumber i → Replaced l from to (padded (word (entryOf (moveOf x) i))) (whole .from) (whole .to) input out r out′) → StepIs a c out r out′
-    replaces-here {out} {r} {out′} R =
-        let Q = R (H .at-state) (H .at-input) (H .state-is) (H .input-is) in
+    pub replaces-here : {out : List ℕ} {m : Replacement} {out′ : List ℕ}
+        → EntryReplaced l from to (n .state) input (whole .from) (whole .to) out m out′ → StepIs a c out (oneLook m input) out′
+    replaces-here {out} {m} {out′} R =
+        let Q = R .by-entry (H .at-state) (H .at-input) (H .state-is) (H .input-is) in
+        let xs = replaced l from to (padded (word p)) (whole .from) (whole .to) in
+        let k = whole .from + length (spell l from to (leading (padded (word p)))) in
         record {
-          answers = Q .answers ∙ ap (λ (y : List ℕ). answerFor y (whole .from + length (spell l from to (leading (padded (word p))))) 1 input) new-list
+          answers = ap (λ (m : Replacement). oneLook m input) (Q .answers) ∙ look-if (ltb mostNodes (length xs)) (length xs) k input
+              ∙ ap (λ (y : List ℕ). answerFor y k 1 input) new-list
               ∙ ap (λ (k : ℕ). answerFor (postfix (plug a (e ++ H .r))) k 1 input) new-start ∙ ap (answerFor (postfix (plug a (e ++ H .r))) (length (before (e ++ H .r))) 1) (H .input-above)
               ∙ sym (ap (stepAnswer a (inputAbove c)) (H .moves));
           leaves = Q .leaves ∙ ap (λ (y : List ℕ). bufferFor y out) new-list ∙ sym (ap (λ (o : Outcome). stepBuffer a o out) (H .moves));

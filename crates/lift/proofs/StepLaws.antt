@@ -1,19 +1,19 @@
 -- Laws of a step: it keeps what the tree selects in every rig and the groups of its leaves, A's level falls by one, and the looks are at most A's level.
 -- A step replaces a left side by an entry, or passes on (`Makes`); each law is an induction over that.
-use mathlib.Core.Path.{_≡_, refl, sym, ap, ap₂, subst, _∙_}
-use mathlib.Core.Bool.{Bool, true, false, _&&_}
+use mathlib.Core.Path.{_≡_, refl, sym, ap, subst, _∙_}
+use mathlib.Core.Bool.{Bool}
 use mathlib.Core.List.{List, [], _∷_, _++_}
 use Prim.Native.Nat.{ℕ, _+_, _≤_}
 use native.Mathlib.Omega.{arith}
 use lib.Dec.{T}
 use lib.ListN.{length, length-append}
-use Rattle.tree.specs.Tree.{Operator, union, difference, Tree, leaf, node, selects, apply, Over}
+use Rattle.tree.specs.Tree.{Operator, union, difference, Tree, node, selects, apply, Over}
 use Rattle.tree.specs.Context.{Side, left, right, Frame, frame, sided, plug}
-use Rattle.tree.proofs.ContextLaws.{plug-append}
-use Rattle.lift.specs.Moves.{Formula, A, B, C, D, join, Move, replaceT, replaceTWithD, passOnUnlessB, moveOf, stateOf, inputOf, under, value, framesOf}
+use Rattle.moves.specs.Moves.{Formula, Move, replaceT, replaceTWithD, passOnUnlessB, moveOf, stateOf, inputOf, under, framesOf}
+use Rattle.moves.proofs.Cases.{at-kind}
+use Rattle.moves.proofs.MoveLaws.{agree, both, replaces, Replaces, may-replace, formulaT, formulaTWithD, right-move, every-move, frames-level, frames-t, frames-t-with-d}
 use Rattle.lift.specs.Step.{Outcome, stuck, moved, passedOn, stepBy, step}
-use Rattle.lift.proofs.Cases.{first-true, second-true, at-kind}
-use Rattle.lift.proofs.MoveLaws.{agree, both, replaces, Replaces, may-replace, formulaT, formulaTWithD, right-move, every-move, agree-at, plug-frames, frames-level, frames-t, frames-t-with-d}
+use Rattle.moves.proofs.EntryLaws.{evaluate, entry-same, evaluate-selects, over-evaluate, evaluate-over}
 
 -- ---- what a step does
 pub data Makes : List Frame → Outcome → Type 0 where
@@ -49,29 +49,11 @@ makes (f ∷ []) = none
 makes (frame s o b ∷ (frame t q c ∷ r)) =
     made s o t q b c r (moveOf (stateOf s o t q)) (every-move s o t q) (step (frame t q c ∷ r)) (makes (frame t q c ∷ r))
 
--- ---- what the tree comes to, for operators that mean f
+-- ---- a step keeps what the tree comes to, for operators that mean f
 module _ (f : Operator → Bool → Bool → Bool) (v : ℕ → Bool) where
-  unfoldable pub evaluate : Tree → Bool
-  evaluate (leaf g h) = v g
-  evaluate (node o l r) = f o (evaluate l) (evaluate r)
-
-  evaluate-value : (a b c d : Tree) (p : Formula) → evaluate (value node a b c d p) ≡ value f (evaluate a) (evaluate b) (evaluate c) (evaluate d) p
-  unfolding evaluate
-  evaluate-value a b c d A = refl
-  evaluate-value a b c d B = refl
-  evaluate-value a b c d C = refl
-  evaluate-value a b c d D = refl
-  evaluate-value a b c d (join o p q) = ap₂ (f o) (evaluate-value a b c d p) (evaluate-value a b c d q)
-
-  evaluate-plug : (t u : Tree) (c : List Frame) → evaluate t ≡ evaluate u → evaluate (plug t c) ≡ evaluate (plug u c)
-  unfolding evaluate plug
-  evaluate-plug t u [] e = e
-  evaluate-plug t u (frame left o b ∷ c) e = evaluate-plug (node o t b) (node o u b) c (ap (λ (x : Bool). f o x (evaluate b)) e)
-  evaluate-plug t u (frame right o b ∷ c) e = evaluate-plug (node o b t) (node o b u) c (ap (f o (evaluate b)) e)
-
   abbrev Same : List Frame → Outcome → Type 0
   Same c stuck = Unit {0}
-  Same c (moved e n) = (a : Tree) → evaluate (plug a e) ≡ evaluate (plug a c)
+  Same c (moved e n) = (a : Tree) → evaluate f v (plug a e) ≡ evaluate f v (plug a c)
 
   passed-same : (s : Side) (o : Operator) (b : Tree) (c : List Frame) (x : Outcome) → Same c x → Same (frame s o b ∷ c) (passedOn (frame s o b) x)
   unfolding plug
@@ -83,44 +65,18 @@ module _ (f : Operator → Bool → Bool → Bool) (v : ℕ → Bool) where
     made-same none = tt
     made-same (passes (frame s o b) c x h) = passed-same s o b c x (made-same h)
     made-same (replaced {c} {e} p l R b k d r q q′) = λ a.
-        let before′ : evaluate (plug a c) ≡ evaluate (plug (value node a b k d l) r) =
-        ap (λ (x : List Frame). evaluate (plug a x)) q ∙ ap evaluate (plug-append a (framesOf b k d l) r ∙ ap (λ (x : Tree). plug x r) (plug-frames a b k d l (R .once-old))) in
-        let after′ : evaluate (plug a e) ≡ evaluate (plug (value node a b k d p) r) =
-        ap (λ (x : List Frame). evaluate (plug a x)) q′ ∙ ap evaluate (plug-append a (framesOf b k d p) r ∙ ap (λ (x : Tree). plug x r) (plug-frames a b k d p (R .once-new))) in
-        after′
-        ∙ evaluate-plug (value node a b k d p) (value node a b k d l) r
-        (evaluate-value a b k d p ∙ agree-at f p l (ok p l R) (evaluate a) (evaluate b) (evaluate k) (evaluate d) ∙ sym (evaluate-value a b k d l))
-        ∙ sym before′
+        ap (λ (x : List Frame). evaluate f v (plug a x)) q′ ∙ entry-same f v p l (R .once-new) (R .once-old) (ok p l R) a b k d r
+        ∙ sym (ap (λ (x : List Frame). evaluate f v (plug a x)) q)
 
-    step-same : (c e : List Frame) (n : ℕ) → step c ≡ moved e n → (a : Tree) → evaluate (plug a e) ≡ evaluate (plug a c)
+    step-same : (c e : List Frame) (n : ℕ) → step c ≡ moved e n → (a : Tree) → evaluate f v (plug a e) ≡ evaluate f v (plug a c)
     step-same c e n h = subst (Same c) h (made-same (makes c))
 
 -- ---- "Two trees are equivalent if they select the same lamps in every rig": a step keeps what the tree selects
-evaluate-selects : (v : ℕ → Bool) (t : Tree) → evaluate apply v t ≡ selects v t
-unfolding evaluate selects
-evaluate-selects v (leaf g h) = refl
-evaluate-selects v (node o l r) = ap₂ (apply o) (evaluate-selects v l) (evaluate-selects v r)
-
 pub step-selects : (c e : List Frame) (n : ℕ) → step c ≡ moved e n → (v : ℕ → Bool) (a : Tree) → selects v (plug a e) ≡ selects v (plug a c)
 step-selects c e n h v a =
     sym (evaluate-selects v (plug a e)) ∙ step-same apply v (λ p l R. R .selects-same) c e n h a ∙ evaluate-selects v (plug a c)
 
 -- ---- a step keeps which groups the leaves have
-both-true : (x y : Bool) → x ≡ true → y ≡ true → (x && y) ≡ true
-both-true true y e f = f
-both-true false y e f = e
-
-over-evaluate : (m : ℕ → Bool) (t : Tree) → Over m t → evaluate both m t ≡ true
-unfolding evaluate Over
-over-evaluate m (leaf g h) o = o
-over-evaluate m (node k l r) o = both-true (evaluate both m l) (evaluate both m r) (over-evaluate m l (o .0)) (over-evaluate m r (o .1))
-
-evaluate-over : (m : ℕ → Bool) (t : Tree) → evaluate both m t ≡ true → Over m t
-unfolding evaluate Over
-evaluate-over m (leaf g h) e = e
-evaluate-over m (node k l r) e =
-    (evaluate-over m l (first-true (evaluate both m l) (evaluate both m r) e), evaluate-over m r (second-true (evaluate both m l) (evaluate both m r) e))
-
 module _ (c e : List Frame) (n : ℕ) (h : step c ≡ moved e n) (m : ℕ → Bool) (a : Tree) where
   same-groups : evaluate both m (plug a e) ≡ evaluate both m (plug a c)
   same-groups = step-same both m (λ p l R. R .parts-same) c e n h a

@@ -1,5 +1,5 @@
 -- The whole call, test by test.
-use mathlib.Core.Path.{_≡_, refl, sym, ap, _∙_}
+use mathlib.Core.Path.{_≡_, refl, sym, ap, _∙_, subst}
 use mathlib.Core.Bool.{Bool, true, false, cond, _||_, true≢false}
 use mathlib.Core.Option.{Option}
 use mathlib.Core.List.{List, []}
@@ -11,51 +11,54 @@ use lib.ListN.{length, take}
 use Rattle.tree.specs.Tree.{Tree, size, mostNodes}
 use Rattle.tree.specs.Context.{Frame, before, Place}
 use Rattle.tree.specs.Parse.{treeOf, isSome, locate}
-use Rattle.tree.specs.Part.{Part}
-use Rattle.tree.specs.Writing.{Wrote}
+use Rattle.tree.specs.InnerPart.{Part}
+use Rattle.tree.specs.InnerWriting.{Wrote}
 use Rattle.tree.proofs.ParseLaws.{IsTree, tree-length, no-tree-of}
 use Rattle.tree.proofs.PartLaws.{part-length, part-of-entry}
 use Rattle.tree.proofs.WritingLaws.{wrote-over, take-over}
-use Rattle.lift.specs.Standing.{StateIs, Standing}
-use Rattle.lift.specs.Lift.{refused, steps, liftAt, liftIn, liftOf, shortBuffer, notATree, noPosition, badLevels}
+use Rattle.lift.specs.InnerStanding.{StateIs, Standing}
+use Rattle.lift.specs.Lift.{refused, steps, liftAt, liftIn, liftOf, Result}
+use Rattle.lift.specs.Answer.{resultSays, liftBuffer, Lifts}
+use Rattle.lift.specs.declared.Lifted.{Lifted}
+use Rattle.lift.specs.declared.Lifted.the-variants.{Refused}
 use Rattle.lift.proofs.LevelLaws.{part-level}
 use Rattle.lift.proofs.StepAnswerLaws.{after-long}
 
 module _ (room : ℕ) (l : List ℕ) (p k : ℕ) where
-  pub says-11 : room < mostNodes → liftOf room l p k ≡ refused shortBuffer
+  pub says-11 : room < mostNodes → liftOf room l p k ≡ refused 11
   says-11 h = unfold liftOf in simp (lt-ltb room mostNodes h)
 
   module _ (h : mostNodes ≤ room) where
     in-tree : liftOf room l p k ≡ liftIn (treeOf l) p k
     in-tree = unfold liftOf in simp (le-ltb room mostNodes h)
 
-    pub says-12 : isSome (treeOf l) ≡ false → liftOf room l p k ≡ refused notATree
+    pub says-12 : isSome (treeOf l) ≡ false → liftOf room l p k ≡ refused 12
     says-12 n = in-tree ∙ ap (λ (o : Option Tree). liftIn o p k) (no-tree-of l n)
 
     module _ (W : IsTree l) where
       abbrev pub place : Place
       place = locate (W .tree) [] p
 
-      in-this : liftOf room l p k ≡ cond (leb (size (W .tree)) p) (refused noPosition) (liftAt place k)
+      in-this : liftOf room l p k ≡ cond (leb (size (W .tree)) p) (refused 13) (liftAt place k)
       in-this = in-tree ∙ ap (λ (o : Option Tree). liftIn o p k) (W .is)
 
-      pub says-13 : length l ≤ p → liftOf room l p k ≡ refused noPosition
-      says-13 q = in-this ∙ ap (λ (b : Bool). cond b (refused noPosition) (liftAt place k)) (le-leb (size (W .tree)) p (omega (arith, tree-length W)))
+      pub says-13 : length l ≤ p → liftOf room l p k ≡ refused 13
+      says-13 q = in-this ∙ ap (λ (b : Bool). cond b (refused 13) (liftAt place k)) (le-leb (size (W .tree)) p (omega (arith, tree-length W)))
 
       module _ (q : p < length l) where
         pub the-part : Part l (length (before (place .above))) (p + 1) (place .part) (place .above)
         the-part = part-of-entry W p q
 
         at-place : liftOf room l p k ≡ liftAt place k
-        at-place = in-this ∙ ap (λ (b : Bool). cond b (refused noPosition) (liftAt place k)) (lt-leb (size (W .tree)) p (omega (arith, tree-length W)))
+        at-place = in-this ∙ ap (λ (b : Bool). cond b (refused 13) (liftAt place k)) (lt-leb (size (W .tree)) p (omega (arith, tree-length W)))
 
         -- by the test of the levels, where `level` is the part's
-        by-test : (level : ℕ) → level ≡ length (place .above) → (b : Bool) → (eqb k 0 || leb level k) ≡ b → liftOf room l p k ≡ cond b (refused badLevels) (steps k (place .part) (place .above) 0)
+        by-test : (level : ℕ) → level ≡ length (place .above) → (b : Bool) → (eqb k 0 || leb level k) ≡ b → liftOf room l p k ≡ cond b (refused 14) (steps k (place .part) (place .above) 0)
         by-test level e b t =
             at-place
-            ∙ ap (λ (x : Bool). cond x (refused badLevels) (steps k (place .part) (place .above) 0)) (ap (λ (n : ℕ). eqb k 0 || leb n k) (sym e) ∙ t)
+            ∙ ap (λ (x : Bool). cond x (refused 14) (steps k (place .part) (place .above) 0)) (ap (λ (n : ℕ). eqb k 0 || leb n k) (sym e) ∙ t)
 
-        pub says-14 : (level : ℕ) → level ≡ length (place .above) → (eqb k 0 || leb level k) ≡ true → liftOf room l p k ≡ refused badLevels
+        pub says-14 : (level : ℕ) → level ≡ length (place .above) → (eqb k 0 || leb level k) ≡ true → liftOf room l p k ≡ refused 14
         says-14 level e t = by-test level e true t
 
         pub runs-on : (level : ℕ) → level ≡ length (place .above) → (eqb k 0 || leb level k) ≡ false → liftOf room l p k ≡ steps k (place .part) (place .above) 0
@@ -83,3 +86,10 @@ same-level P Q = sym (part-level P) ∙ part-level Q
 
 pub level-within : {l : List ℕ} {f t : ℕ} {a : Tree} {c : List Frame} → Part l f t a c → length c ≤ length l
 level-within {l} {f} {t} {a} {c} P = omega (arith, after-long c, part-length P)
+
+-- ---- what the call answers, for results that are the same
+pub refuses : {x : Result} {number : ℕ} {out : List ℕ} → x ≡ refused number → Lifts x out (Refused number) out
+refuses {x} {number} {out} e = record { says = sym (ap resultSays e); leaves = sym (ap (λ (y : Result). liftBuffer y out) e) }
+
+pub lifts-same : {x y : Result} {out : List ℕ} {r : Lifted} {out′ : List ℕ} → x ≡ y → Lifts y out r out′ → Lifts x out r out′
+lifts-same {x} {y} {out} {r} {out′} e L = subst (λ (z : Result). Lifts z out r out′) (sym e) L

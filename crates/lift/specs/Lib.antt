@@ -1,7 +1,6 @@
-pub mod Moves
 pub mod Step
 pub mod Lift
 pub mod Answer
-pub mod Words
-pub mod Standing
-pub mod Steps
+pub mod InnerStanding
+pub mod InnerSteps
+pub mod InnerLifts

@@ -3,7 +3,7 @@ use mathlib.Core.List.{List, [], _∷_, _++_}
 use Prim.Native.Nat.{ℕ, _+_}
 use Rattle.tree.specs.Tree.{Tree}
 use Rattle.tree.specs.Context.{Frame, frame}
-use Rattle.lift.specs.Moves.{Move, replaceT, replaceTWithD, passOnUnlessB, moveOf, stateOf, inputOf, under, framesOf}
+use Rattle.moves.specs.Moves.{Move, replaceT, replaceTWithD, passOnUnlessB, moveOf, stateOf, inputOf, under, framesOf}
 
 -- no step (01's number 15), or the new frames above A, and the looks
 pub data Outcome : Type 0 where

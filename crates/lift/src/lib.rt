@@ -1,20 +1,20 @@
 // Lifting a node of a tree by Tables 9 and 10, step by step, all or none.
 ghost use mathlib.Core.Path.{_≡_};
-ghost use mathlib.Core.List.{List, [], _∷_};
+ghost use mathlib.Core.List.{List};
 ghost use Prim.Native.Nat.{ℕ, _+_, _*_, _≤_, _<_};
 ghost use lib.ListN.{length, take};
 ghost use Rattle.tree.specs.Tree.{Operator, Tree, mostNodes};
 ghost use Rattle.tree.specs.Context.{Side, Frame};
-ghost use Rattle.tree.specs.Part.{Part, Located, kindOf, aboveOf};
-ghost use Rattle.tree.specs.Writing.{Wrote};
-ghost use Rattle.lift.specs.Moves.{State, Input, moveOf, stateOf, nextState};
-ghost use Rattle.lift.specs.Words.{partOf, Within, Bounded, signFor, spell, leading, word, padded, mostSigns, replaced};
-ghost use Rattle.lift.specs.Standing.{stateNumber, inputNumber, StateIs, AtLevel, Standing, Stands};
-ghost use Rattle.lift.specs.Steps.{entryOf, framedAs, Planned, Replaced, StepIs, passedAnswer, Small};
-ghost use Rattle.lift.specs.Lift.{steps, liftOf};
-ghost use Rattle.lift.specs.Answer.{answer, buffer, Answers};
+ghost use Rattle.tree.specs.InnerPart.{Part, Located, kindOf, aboveOf};
+ghost use Rattle.moves.specs.Moves.{stateOf};
+ghost use Rattle.moves.specs.InnerEntries.{stateNumber};
+ghost use Rattle.lift.specs.InnerStanding.{StateIs, AtLevel, Standing, Stands};
+ghost use Rattle.lift.specs.InnerSteps.{framedAs, Planned, StepIs, oneLook, passedAnswer, Small};
+ghost use Rattle.lift.specs.InnerLifts.{LiftsNode, LiftsPart};
+ghost use Rattle.lift.specs.Lift.{liftOf};
+ghost use Rattle.lift.specs.Answer.{Lifts};
+use moves::Replacement;
 use tree::Above;
-use tree::DIFFERENCE;
 use tree::MOST_NODES;
 use tree::UNION;
 
@@ -40,78 +40,6 @@ const LAST_ALONE: usize = 4;
 const PASSING: usize = 9;
 
 const INPUT_B: usize = 1;
-
-// Table 10: the state after a step, a row for each state, under inputs a b c d.
-const NEXT: [[usize; 4]; 9] = [
-    [1, 5, 1, 2],
-    [7, 4, 7, 9],
-    [6, 3, 6, 8],
-    [7, 4, 7, 9],
-    [6, 6, 6, 8],
-    [6, 6, 6, 8],
-    [7, 7, 7, 9],
-    [7, 7, 7, 9],
-    [9, 9, 9, 9],
-];
-
-// Table 9: the move entries, operands before operators, + for union and - for difference: a row for each state, under inputs a b c d. In
-// states 1 to 4 they replace T alone, in states 5 to 8 T with D; state 9 uses its entry under b only.
-const MOVES: [[[u8; 13]; 4]; 9] = [
-    [
-        *b"ABC++        ",
-        *b"ABC++        ",
-        *b"ABC++        ",
-        *b"ABC++        ",
-    ],
-    [
-        *b"CB-A-        ",
-        *b"CB-A-        ",
-        *b"CB-A-        ",
-        *b"CB-A-        ",
-    ],
-    [
-        *b"ABC+-        ",
-        *b"ABC+-        ",
-        *b"ABC+-        ",
-        *b"ABC+-        ",
-    ],
-    [
-        *b"BC-A-        ",
-        *b"BC-A-        ",
-        *b"BC-A-        ",
-        *b"BC-A-        ",
-    ],
-    [
-        *b"DBC-+AC-+    ",
-        *b"ACD+-BC-D-+  ",
-        *b"AC-DBC-++    ",
-        *b"DBC--AC--    ",
-    ],
-    [
-        *b"DC+AB-+      ",
-        *b"ABD+-CD-+    ",
-        *b"AB-DC++      ",
-        *b"DC-AB--      ",
-    ],
-    [
-        *b"DC+BA-+      ",
-        *b"BD-A-CD-+    ",
-        *b"BA-DC++      ",
-        *b"DC-BA--      ",
-    ],
-    [
-        *b"DCCB--+CA-+  ",
-        *b"CD-A-CCB--D-+",
-        *b"CA-DCCB--++  ",
-        *b"DCCB---CA--  ",
-    ],
-    [
-        *b"CD-BA--      ",
-        *b"CD-BA--      ",
-        *b"CD-BA--      ",
-        *b"CD-BA--      ",
-    ],
-];
 
 // A node of a tree's list: its part's entries, from `from` up to, not including, `to`; its level; and its state, where it has a grandparent.
 pub struct Node {
@@ -141,22 +69,22 @@ pub enum Plan {
     Here(usize, Stretch, Stretch, Stretch, Stretch),
 }
 
-// A step's answer: there is none (15); its result is too long (16); or the new tree's length, where A begins, the looks and the input.
+// A step's answer: there is none (15); its result is too long (16); or how many nodes the new tree has, where A begins, the looks and the input.
 pub enum Stepped {
     Stuck,
     TooLong,
     Done {
-        length: usize,
+        nodes: usize,
         from: usize,
         looks: usize,
         input: usize,
     },
 }
 
-// A lift's answer: the new tree's length, A's position and the looks; or the refusal's number.
+// A lift's answer: how many nodes the new tree has, A's position and the looks; or the refusal's number.
 pub enum Lifted {
     Done {
-        length: usize,
+        nodes: usize,
         position: usize,
         looks: usize,
     },
@@ -170,218 +98,6 @@ fn state_of(own: u8, parent: u8) -> usize
 {
     let row = STATES[own as usize];
     row[parent as usize]
-}
-
-// The state after a step, from the table.
-fn next_state(state: usize, input: usize) -> usize
-    requires { ⌜ (1 ≤ state) × (state ≤ 9) × (input < 4) ⌝ }
-    ensures { λ r. ⌜ ((x : State) (i : Input) → state ≡ stateNumber x → input ≡ inputNumber i → r ≡ stateNumber (nextState x i)) ⌝ }
-{
-    let row = NEXT[state - 1];
-    row[input]
-}
-
-// The word of a move entry.
-fn move_word(state: usize, input: usize) -> [u8; 13]
-    requires { ⌜ (1 ≤ state) × (state ≤ 9) × (input < 4) ⌝ }
-    ensures { λ r. ⌜ ((x : State) (i : Input) → state ≡ stateNumber x → input ≡ inputNumber i → r ≡ padded (word (entryOf (moveOf x) i))) ⌝ }
-{
-    let row = MOVES[state - 1];
-    row[input]
-}
-
-// Which of the four parts a sign names, 4 for none.
-fn part_of(sign: u8) -> usize
-    ensures { λ r. ⌜ r ≡ partOf sign ⌝ }
-{
-    if (b'A' <= sign) & (sign <= b'D') {
-        (sign - b'A') as usize
-    } else {
-        4
-    }
-}
-
-// Writes one number into `out` at index `at`, and returns the index after it.
-fn write_one(x: u16, out: &mut [u16], at: usize) -> usize
-    requires { ⌜ at < length (now out) ⌝ }
-    ensures { λ r. ⌜ Wrote (now (out .entry)) at (now (out .exit)) r (x ∷ []) ⌝ }
-{
-    out[at] = x;
-    at + 1
-}
-
-// Writes what a sign of a word stands for: one of four stretches of the list, an operator, or nothing.
-fn write_sign(
-    list: &[u16],
-    from: [usize; 4],
-    to: [usize; 4],
-    sign: u8,
-    out: &mut [u16],
-    at: usize,
-) -> usize
-    requires { ⌜ Within (now list) from to ⌝ }
-    requires { ⌜ at + length (signFor (now list) from to sign) ≤ length (now out) ⌝ }
-    ensures { λ r. ⌜ Wrote (now (out .entry)) at (now (out .exit)) r (signFor (now (list .entry)) from to sign) ⌝ }
-{
-    let part = part_of(sign);
-    if part < 4 {
-        let first = from[part];
-        let end = to[part];
-        return tree::copy(&list[first..end], out, at);
-    }
-    if sign == b'+' {
-        return write_one(UNION, out, at);
-    }
-    if sign == b'-' {
-        return write_one(DIFFERENCE, out, at);
-    }
-    at
-}
-
-// Writes what a word stands for, by copying parts. It goes by the word alone, whichever word it is.
-fn write_word(
-    list: &[u16],
-    from: [usize; 4],
-    to: [usize; 4],
-    word: &[u8],
-    out: &mut [u16],
-    at: usize,
-) -> usize
-    requires { ⌜ Within (now list) from to ⌝ }
-    requires { ⌜ at + length (spell (now list) from to (now word)) ≤ length (now out) ⌝ }
-    ensures { λ r. ⌜ Wrote (now (out .entry)) at (now (out .exit)) r (spell (now (list .entry)) from to (now (word .entry))) ⌝ }
-{
-    let mut next = at;
-    let mut i = 0;
-    while i < word.len() {
-        let sign = word[i];
-        next = write_sign(list, from, to, sign, out, next);
-        i += 1;
-    }
-    next
-}
-
-// How many entries a sign of a word stands for.
-fn sign_width(from: [usize; 4], to: [usize; 4], sign: u8) -> usize
-    requires { ⌜ Bounded from to ⌝ }
-    ensures { λ r. ⌜ ((l : List ℕ) → Within l from to → r ≡ length (signFor l from to sign)) ⌝ }
-    ensures { λ r. ⌜ r ≤ mostNodes ⌝ }
-{
-    let part = part_of(sign);
-    if part < 4 {
-        return to[part] - from[part];
-    }
-    if sign == b'+' {
-        return 1;
-    }
-    if sign == b'-' {
-        return 1;
-    }
-    0
-}
-
-// How many entries a word stands for.
-fn word_width(from: [usize; 4], to: [usize; 4], word: &[u8]) -> usize
-    requires { ⌜ Bounded from to ⌝ }
-    requires { ⌜ length (now word) ≤ mostSigns ⌝ }
-    ensures { λ r. ⌜ ((l : List ℕ) → Within l from to → r ≡ length (spell l from to (now (word .entry)))) ⌝ }
-    ensures { λ r. ⌜ r ≤ mostSigns * mostNodes ⌝ }
-{
-    let mut width: usize = 0;
-    let mut i = 0;
-    while i < word.len() {
-        let sign = word[i];
-        width += sign_width(from, to, sign);
-        i += 1;
-    }
-    width
-}
-
-// The place of A in a word: how many signs stand before it.
-fn place_of_a(word: &[u8]) -> usize
-    ensures { λ r. ⌜ (r ≤ length (now (word .entry))) × (take r (now (word .entry)) ≡ leading (now (word .entry))) ⌝ }
-{
-    let mut i = 0;
-    while i < word.len() {
-        if word[i] == b'A' {
-            return i;
-        }
-        i += 1;
-    }
-    i
-}
-
-// Writes the list with the entries from `whole` up to, not including, `end` replaced by what the word stands for.
-fn write_replaced(
-    list: &[u16],
-    from: [usize; 4],
-    to: [usize; 4],
-    word: &[u8],
-    whole: usize,
-    end: usize,
-    out: &mut [u16],
-) -> usize
-    requires { ⌜ Within (now list) from to ⌝ }
-    requires { ⌜ (whole ≤ end) × (end ≤ length (now list)) ⌝ }
-    requires { ⌜ length (replaced (now list) from to (now word) whole end) ≤ length (now out) ⌝ }
-    ensures { λ r. ⌜ Wrote (now (out .entry)) 0 (now (out .exit)) r (replaced (now (list .entry)) from to (now (word .entry)) whole end) ⌝ }
-{
-    let first = tree::copy(&list[..whole], out, 0);
-    let second = write_word(list, from, to, word, out, first);
-    tree::copy(&list[end..], out, second)
-}
-
-// The same where the result is not too long, as a step's answer with one look.
-fn replace(
-    list: &[u16],
-    from: [usize; 4],
-    to: [usize; 4],
-    word: &[u8],
-    whole: usize,
-    end: usize,
-    input: usize,
-    out: &mut [u16],
-) -> Stepped
-    requires { ⌜ Within (now list) from to ⌝ }
-    requires { ⌜ (whole ≤ end) × (end ≤ length (now list)) ⌝ }
-    requires { ⌜ (length (now list) ≤ mostNodes) × (mostNodes ≤ length (now out)) ⌝ }
-    requires { ⌜ length (now word) ≤ mostSigns ⌝ }
-    ensures { λ r. ⌜ Replaced (now (list .entry)) from to (now (word .entry)) whole end input (now (out .entry)) r (now (out .exit)) ⌝ }
-{
-    let length = whole + word_width(from, to, word) + (list.len() - end);
-    if MOST_NODES < length {
-        return Stepped::TooLong;
-    }
-    let before = place_of_a(word);
-    let start = whole + word_width(from, to, &word[..before]);
-    write_replaced(list, from, to, word, whole, end, out);
-    Stepped::Done {
-        length,
-        from: start,
-        looks: 1,
-        input,
-    }
-}
-
-// The same by a move entry.
-fn replace_by_move(
-    list: &[u16],
-    from: [usize; 4],
-    to: [usize; 4],
-    state: usize,
-    input: usize,
-    whole: usize,
-    end: usize,
-    out: &mut [u16],
-) -> Stepped
-    requires { ⌜ Within (now list) from to ⌝ }
-    requires { ⌜ (whole ≤ end) × (end ≤ length (now list)) ⌝ }
-    requires { ⌜ (length (now list) ≤ mostNodes) × (mostNodes ≤ length (now out)) ⌝ }
-    requires { ⌜ (1 ≤ state) × (state ≤ 9) × (input < 4) ⌝ }
-    ensures { λ r. ⌜ ((x : State) (i : Input) → state ≡ stateNumber x → input ≡ inputNumber i → Replaced (now (list .entry)) from to (padded (word (entryOf (moveOf x) i))) whole end input (now (out .entry)) r (now (out .exit))) ⌝ }
-{
-    let entry = move_word(state, input);
-    replace(list, from, to, &entry, whole, end, input, out)
 }
 
 // The innermost frame of a part.
@@ -449,6 +165,21 @@ fn plan_step(list: &[u16], node: Node) -> Plan
     Plan::Here(input, b, c, d, whole)
 }
 
+// The answer of a step that replaced a stretch: one look.
+fn one_look(made: Replacement, input: usize) -> Stepped
+    ensures { λ r. ⌜ r ≡ oneLook made input ⌝ }
+{
+    match made {
+        Replacement::TooLong => Stepped::TooLong,
+        Replacement::Done { nodes, from } => Stepped::Done {
+            nodes,
+            from,
+            looks: 1,
+            input,
+        },
+    }
+}
+
 // The answer of a step that is passed on to the parent: A begins as much later as it did in its parent's part, and looks are one more.
 fn passed_on(up: Stepped, later: usize, input: usize) -> Stepped
     requires { ⌜ Small up later ⌝ }
@@ -458,12 +189,12 @@ fn passed_on(up: Stepped, later: usize, input: usize) -> Stepped
         Stepped::Stuck => Stepped::Stuck,
         Stepped::TooLong => Stepped::TooLong,
         Stepped::Done {
-            length,
+            nodes,
             from,
             looks,
             input: _,
         } => Stepped::Done {
-            length,
+            nodes,
             from: from + later,
             looks: looks + 1,
             input,
@@ -487,7 +218,10 @@ fn step(list: &[u16], node: Node, out: &mut [u16]) -> Stepped
         Plan::Here(input, b, c, d, old) => {
             let from = [node.from, b.from, c.from, d.from];
             let to = [node.to, b.to, c.to, d.to];
-            replace_by_move(list, from, to, node.state, input, old.from, old.to, out)
+            one_look(
+                moves::replace_by_move(list, from, to, node.state, input, old.from, old.to, out),
+                input,
+            )
         }
     }
 }
@@ -507,12 +241,12 @@ fn run(
     requires { ⌜ (nodes ≤ mostNodes) × (mostNodes ≤ length (now x)) ⌝ }
     requires { ⌜ (mostNodes ≤ length (now y)) × (mostNodes ≤ length (now out)) ⌝ }
     requires { ⌜ (levels < node .level) × (looks + mostNodes * levels ≤ mostNodes * mostNodes) ⌝ }
-    ensures { λ r. ⌜ ((a : Tree) (c : List Frame) → Standing (take nodes (now (x .entry))) node a c → Answers (steps levels a c looks) (now (out .entry)) r (now (out .exit))) ⌝ }
+    ensures { λ r. ⌜ LiftsNode (take nodes (now (x .entry))) node levels looks (now (out .entry)) r (now (out .exit)) ⌝ }
 {
     if levels == 0 {
         tree::copy(&x[..nodes], out, 0);
         return Lifted::Done {
-            length: nodes,
+            nodes,
             position: node.to - 1,
             looks,
         };
@@ -521,7 +255,7 @@ fn run(
         Stepped::Stuck => Lifted::Refused(NO_STEP),
         Stepped::TooLong => Lifted::Refused(TOO_LONG),
         Stepped::Done {
-            length,
+            nodes: new_nodes,
             from,
             looks: more,
             input,
@@ -530,9 +264,9 @@ fn run(
                 from,
                 to: from + (node.to - node.from),
                 level: node.level - 1,
-                state: next_state(node.state, input),
+                state: moves::next_state(node.state, input),
             };
-            run(y, x, length, next, levels - 1, looks + more, out)
+            run(y, x, new_nodes, next, levels - 1, looks + more, out)
         }
     }
 }
@@ -583,7 +317,7 @@ fn lift_part(list: &[u16], to: usize, level: usize, levels: usize, out: &mut [u1
     requires { ⌜ AtLevel (now list) to level ⌝ }
     requires { ⌜ (length (now list) ≤ mostNodes) × (mostNodes ≤ length (now out)) ⌝ }
     requires { ⌜ levels < level ⌝ }
-    ensures { λ r. ⌜ ((from : ℕ) (a : Tree) (c : List Frame) → Part (now (list .entry)) from to a c → Answers (steps levels a c 0) (now (out .entry)) r (now (out .exit))) ⌝ }
+    ensures { λ r. ⌜ LiftsPart (now (list .entry)) to levels (now (out .entry)) r (now (out .exit)) ⌝ }
 {
     let from = tree::part_start(list, to);
     let state = first_state(list, Stretch { from, to });
@@ -608,8 +342,7 @@ fn lift_part(list: &[u16], to: usize, level: usize, levels: usize, out: &mut [u1
 
 // Lifts the node at a position of a tree by some levels, and writes the new tree into `out`.
 pub fn lift(tree: &[u16], position: usize, levels: usize, out: &mut [u16]) -> Lifted
-    ensures { λ r. ⌜ r ≡ answer (liftOf (length (now (out .entry))) (now (tree .entry)) position levels) ⌝ }
-    ensures { λ r. ⌜ now (out .exit) ≡ buffer (liftOf (length (now (out .entry))) (now (tree .entry)) position levels) (now (out .entry)) ⌝ }
+    ensures { λ r. ⌜ Lifts (liftOf (length (now (out .entry))) (now (tree .entry)) position levels) (now (out .entry)) r (now (out .exit)) ⌝ }
 {
     if out.len() < MOST_NODES {
         return Lifted::Refused(SHORT_BUFFER);

@@ -80,11 +80,11 @@ fn print_entry(x: u16) {
     io::print_decimal(1, x as u64);
 }
 
-// The first entries of a tree of this length, at most twelve.
-fn print_front(out: &[u16], length: usize) {
+// The first entries of a tree of so many nodes, at most twelve.
+fn print_front(out: &[u16], nodes: usize) {
     let mut i = 0;
     while i < out.len() {
-        if (i == length) | (i == 12) {
+        if (i == nodes) | (i == 12) {
             return;
         }
         print_entry(out[i]);
@@ -92,18 +92,18 @@ fn print_front(out: &[u16], length: usize) {
     }
 }
 
-// The number, the position and the looks as the key prints them, and the length; refused, the line's own position, 0 and 0.
+// The number, the position and the looks as the key prints them, and the new tree's length; refused, the line's own position, 0 and 0.
 fn print_answer(answer: Lifted, asked: usize) {
     match answer {
         Lifted::Done {
-            length,
+            nodes,
             position,
             looks,
         } => {
             print_number(0);
             print_number(position as u64);
             print_number(looks as u64);
-            print_number(length as u64);
+            print_number(nodes as u64);
         }
         Lifted::Refused(number) => {
             print_number(number as u64);
@@ -114,13 +114,13 @@ fn print_answer(answer: Lifted, asked: usize) {
     }
 }
 
-fn length_of(answer: Lifted) -> usize {
+fn nodes_of(answer: Lifted) -> usize {
     match answer {
         Lifted::Done {
-            length,
+            nodes,
             position: _,
             looks: _,
-        } => length,
+        } => nodes,
         Lifted::Refused(_) => 0,
     }
 }
@@ -133,7 +133,7 @@ fn show_in(label: &[u8], tree: &[u16], position: usize, levels: usize, out: &mut
     print_answer(answer, position);
     print_number(unchanged(out) as u64);
     io::print_decimal(1, checksum(out));
-    print_front(out, length_of(answer));
+    print_front(out, nodes_of(answer));
     io::write_all(1, b"\n");
 }
 

@@ -1,4 +1,7 @@
-pub mod Tests
-pub mod Packing
-pub mod Lists
-pub mod Holding
+pub mod InstructionLaws
+pub mod ByteLaws
+pub mod PlayingLaws
+pub mod FaultLaws
+pub mod ListLaws
+pub mod PackingLaws
+pub mod HoldingLaws

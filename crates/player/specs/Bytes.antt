@@ -1,11 +1,12 @@
 -- A set of lamps as bytes. 01, "The player": "lamp n is bit (n−1) mod 8, lowest bit 0, of byte (n−1)/8 rounded down, 1 if
--- the answer holds that lamp (it is lit), else 0". The law `byte-bit` of Laws says it in these words.
+-- the answer holds that lamp (it is lit), else 0". The law `byte-bit` of proofs/ByteLaws.antt says it in these words.
 use mathlib.Core.Bool.{Bool, true, false}
 use mathlib.Core.List.{List, [], _∷_}
 use Prim.Native.Nat.{ℕ, zero, suc, _+_, _*_}
 use Rattle.player.specs.Limits.{byteCount}
 use Rattle.player.specs.Instructions.{Lamps}
 
+-- "1 if the answer holds that lamp (it is lit), else 0"
 abbrev pub bit : Bool → ℕ
 bit true = 1
 bit false = 0

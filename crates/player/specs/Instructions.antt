@@ -1,9 +1,8 @@
 -- Instructions, what they do to the registers, and the numbers that they are written as. 01, "The instructions".
 use mathlib.Core.Bool.{Bool, false, not, cond, _&&_, _||_}
 use mathlib.Core.List.{List, [], _∷_, _++_}
-use Prim.Native.Nat.{ℕ, _≤_, _<_}
+use Prim.Native.Nat.{ℕ}
 use lib.Dec.{eqb}
-use Rattle.player.specs.Limits.{registerCount, lastGroup}
 
 -- A set of lamps, by lamp number.
 abbrev pub Lamps : Type 0
@@ -23,6 +22,7 @@ pub data Instruction : Type 0 where
   add : (target s t : ℕ) → Instruction
   cut : (target s t : ℕ) → Instruction
 
+-- "union of registers s and t"
 abbrev pub union : Lamps → Lamps → Lamps
 union f g lamp = f lamp || g lamp
 
@@ -50,10 +50,10 @@ run rig [] R = R
 run rig (i ∷ is) R = run rig is (step rig i R)
 
 -- "empty at first; the answer is in 0"
-abbrev pub answer : Rig → List Instruction → Lamps
-answer rig is = run rig is empty 0
+abbrev pub litLamps : Rig → List Instruction → Lamps
+litLamps rig is = run rig is empty 0
 
--- "An instruction is four 16-bit numbers: kind, target, and two more"
+-- "An instruction is four 16-bit numbers: kind, target, and two more"; "LOAD (1) .. ADD (2) .. CUT (3)"
 abbrev pub loadKind : ℕ
 loadKind = 1
 
@@ -84,14 +84,3 @@ instructions (a ∷ []) = []
 instructions (a ∷ b ∷ []) = []
 instructions (a ∷ b ∷ c ∷ []) = []
 instructions (a ∷ b ∷ c ∷ d ∷ rest) = instruction a b c d ∷ instructions rest
-
--- An instruction within the limits: registers 0 to 12, groups 1 to 9999.
-abbrev pub WellFormed : Instruction → Type 0
-WellFormed (load target group) = (target < registerCount) × (1 ≤ group) × (group ≤ lastGroup)
-WellFormed (add target s t) = (target < registerCount) × (s < registerCount) × (t < registerCount)
-WellFormed (cut target s t) = (target < registerCount) × (s < registerCount) × (t < registerCount)
-
--- .. and a list of them.
-unfoldable pub AllWellFormed : List Instruction → Type 0
-AllWellFormed [] = Unit {0}
-AllWellFormed (i ∷ is) = WellFormed i × AllWellFormed is

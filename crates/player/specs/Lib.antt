@@ -3,5 +3,4 @@ pub mod Instructions
 pub mod Patches
 pub mod Bytes
 pub mod Playing
-pub mod Laws
-pub mod Words
+pub mod InnerWords

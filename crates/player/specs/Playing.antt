@@ -5,8 +5,9 @@ use mathlib.Core.List.{List, [], _∷_, _++_}
 use Prim.Native.Nat.{ℕ, _*_, _%_}
 use lib.Dec.{eqb, leb, ltb}
 use lib.ListN.{length, drop}
+use Rattle.common.specs.Answer.{Answer, done, refusedWith, answerBy}
 use Rattle.player.specs.Limits.{registerCount, lastGroup, lastLamp, byteCount, mostInstructions, mostPairs, outside}
-use Rattle.player.specs.Instructions.{answer, loadKind, addKind, cutKind, instructions}
+use Rattle.player.specs.Instructions.{litLamps, loadKind, addKind, cutKind, instructions}
 use Rattle.player.specs.Patches.{rig}
 use Rattle.player.specs.Bytes.{bytes}
 use Rattle.player.specs.declared.Played.{Played}
@@ -45,30 +46,25 @@ wrongPatch (g ∷ []) = false
 wrongPatch (g ∷ n ∷ rest) = wrongPair g n || wrongPatch rest
 
 -- "the first fault listed is the one given"; 0 where there is none
-abbrev pub fault : (code patch lamps : List ℕ) → ℕ
-fault code patch lamps =
+abbrev pub playFault : (code patch lamps : List ℕ) → ℕ
+playFault code patch lamps =
     cond (ltb (length lamps) byteCount) 21
     (cond (wrongLength (length code)) 22
     (cond (wrongCode code) 23
     (cond (wrongPairCount (length patch)) 24
     (cond (wrongPatch patch) 25 0))))
 
--- 01's number for each answer: 0 for done, the fault's for refused.
-abbrev pub number : Played → ℕ
-number Done = 0
-number (Refused n) = n
-
--- The answer that the faults call for.
-abbrev pub reply : (code patch lamps : List ℕ) → Played
-reply code patch lamps = cond (eqb (fault code patch lamps) 0) Done (Refused (fault code patch lamps))
-
 -- The bytes afterwards: done, the first 64 say the answer and the others are as they were; refused, "bytes unchanged".
 abbrev pub bytesAfter : (code patch lamps : List ℕ) → List ℕ
 bytesAfter code patch lamps =
-    cond (eqb (fault code patch lamps) 0) (bytes (answer (rig patch) (instructions code)) ++ drop byteCount lamps) lamps
+    cond (eqb (playFault code patch lamps) 0) (bytes (litLamps (rig patch) (instructions code)) ++ drop byteCount lamps) lamps
+
+-- 01's number for each answer; there are no values
+abbrev pub playedSays : Played → Answer
+playedSays Done = done []
+playedSays (Refused n) = refusedWith n
 
 -- What a call answers, and what the bytes are afterwards.
 pub record Plays (code patch lamps : List ℕ) (r : Played) (after : List ℕ) : Type 0 where
-  pub numbered : number r ≡ fault code patch lamps
-  pub answered : r ≡ reply code patch lamps
+  pub says : playedSays r ≡ answerBy (playFault code patch lamps) []
   pub written : after ≡ bytesAfter code patch lamps

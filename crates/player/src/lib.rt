@@ -9,11 +9,11 @@ ghost use Prim.Native.Nat.{ℕ, _+_, _≤_, _<_};
 ghost use lib.Dec.{eqb};
 ghost use lib.ListN.{length, getD, drop};
 ghost use Rattle.player.specs.Limits.{registerCount, lastGroup, byteCount, outside};
-ghost use Rattle.player.specs.Instructions.{Lamps, Rig, Registers, union, empty, step, answer, instruction, instructions};
+ghost use Rattle.player.specs.Instructions.{Lamps, Rig, Registers, union, empty, step, litLamps, instruction, instructions};
 ghost use Rattle.player.specs.Patches.{rig};
 ghost use Rattle.player.specs.Bytes.{bytes};
-ghost use Rattle.player.specs.Playing.{wrongLength, wrongInstruction, wrongCode, wrongPairCount, wrongPair, wrongPatch, fault, Plays};
-ghost use Rattle.player.specs.Words.{word, wordCount, combined, HoldsSets, HoldsSet};
+ghost use Rattle.player.specs.Playing.{wrongLength, wrongInstruction, wrongCode, wrongPairCount, wrongPair, wrongPatch, playFault, Plays};
+ghost use Rattle.player.specs.InnerWords.{word, wordCount, combined, HoldsSets, HoldsSet, Executable};
 
 // 01's limits: the registers, the last group and the last lamp, the bytes written, the instructions and the pairs.
 const REGISTERS: usize = 13;
@@ -28,12 +28,13 @@ const INSTRUCTIONS: usize = 8191;
 
 const PAIRS: usize = 4096;
 
-// 01's kinds of instruction.
-const LOAD: usize = 1;
+// 01's kinds of instruction: "LOAD (1) target, group, 0. ADD (2) target, s, t: union of registers s and t. CUT (3) target,
+// s, t: s without t."
+pub const LOAD: u16 = 1;
 
-const ADD: usize = 2;
+pub const ADD: u16 = 2;
 
-const CUT: usize = 3;
+pub const CUT: u16 = 3;
 
 // The lamps of a word, and the words of a set.
 const WIDTH: usize = 64;
@@ -48,7 +49,7 @@ pub enum Played {
 
 // An instruction's four numbers; s is LOAD's group.
 struct Numbers {
-    kind: usize,
+    kind: u16,
     target: usize,
     s: usize,
     t: usize,
@@ -69,7 +70,7 @@ fn numbers_at(code: &[u16], at: usize) -> Numbers
         × (r .s ≡ getD (now (code .entry)) (at + 2) 0) × (r .t ≡ getD (now (code .entry)) (at + 3) 0) ⌝ }
 {
     Numbers {
-        kind: number_at(code, at),
+        kind: code[at],
         target: number_at(code, at + 1),
         s: number_at(code, at + 2),
         t: number_at(code, at + 3),
@@ -77,7 +78,7 @@ fn numbers_at(code: &[u16], at: usize) -> Numbers
 }
 
 // The union of two sets for ADD, the first without the second for CUT.
-fn combine(kind: usize, x: u64, y: u64) -> u64
+fn combine(kind: u16, x: u64, y: u64) -> u64
     ensures { λ r. ⌜ ((f g : Lamps) (first : ℕ) → x ≡ word f first → y ≡ word g first → r ≡ word (combined kind f g) first) ⌝ }
 {
     if kind == ADD { x | y } else { x & !y }
@@ -122,7 +123,7 @@ fn load_groups(patch: &[u16], first: usize) -> [u64; GROUPS + 1]
 
 // Carries out one instruction.
 fn step(registers: &mut [u64; REGISTERS], i: Numbers, groups: &[u64])
-    requires { ⌜ (wrongInstruction (i .kind) (i .target) (i .s) (i .t) ≡ false) × (length (now groups) ≡ lastGroup + 1) × (length (now registers) ≡ registerCount) ⌝ }
+    requires { ⌜ Executable (i .kind) (i .target) (i .s) (i .t) (now registers) (now groups) ⌝ }
     ensures { λ _. ⌜ (length (now (registers .exit)) ≡ registerCount)
         × ((first : ℕ) (G : Rig) (R : Registers)
         → HoldsSets (lastGroup + 1) first (now (groups .entry)) G → HoldsSets registerCount first (now (registers .entry)) R
@@ -142,7 +143,7 @@ fn step(registers: &mut [u64; REGISTERS], i: Numbers, groups: &[u64])
 fn execute(code: &[u16], groups: &[u64]) -> u64
     requires { ⌜ (wrongCode (now code) ≡ false) × (length (now groups) ≡ lastGroup + 1) ⌝ }
     ensures { λ r. ⌜ ((first : ℕ) (G : Rig) → HoldsSets (lastGroup + 1) first (now (groups .entry)) G
-        → r ≡ word (answer G (instructions (now (code .entry)))) first) ⌝ }
+        → r ≡ word (litLamps G (instructions (now (code .entry)))) first) ⌝ }
 {
     let mut registers = [0u64; REGISTERS];
     let mut at = 0;
@@ -157,7 +158,7 @@ fn execute(code: &[u16], groups: &[u64]) -> u64
 // The 64 lamps of the answer from `first` on.
 fn answer_word(code: &[u16], patch: &[u16], first: usize) -> u64
     requires { ⌜ wrongCode (now code) ≡ false ⌝ }
-    ensures { λ r. ⌜ r ≡ word (answer (rig (now (patch .entry))) (instructions (now (code .entry)))) first ⌝ }
+    ensures { λ r. ⌜ r ≡ word (litLamps (rig (now (patch .entry))) (instructions (now (code .entry)))) first ⌝ }
 {
     let groups = load_groups(patch, first);
     execute(code, &groups)
@@ -166,7 +167,7 @@ fn answer_word(code: &[u16], patch: &[u16], first: usize) -> u64
 // The answer, 64 lamps after 64 lamps.
 fn answer(code: &[u16], patch: &[u16]) -> [u64; WORDS]
     requires { ⌜ wrongCode (now code) ≡ false ⌝ }
-    ensures { λ r. ⌜ HoldsSet wordCount r (answer (rig (now (patch .entry))) (instructions (now (code .entry)))) ⌝ }
+    ensures { λ r. ⌜ HoldsSet wordCount r (litLamps (rig (now (patch .entry))) (instructions (now (code .entry)))) ⌝ }
 {
     let mut words = [0u64; WORDS];
     let mut i = 0;
@@ -211,7 +212,7 @@ fn wrong_instruction(i: Numbers) -> bool
         (REGISTERS <= i.target) | (outside(1, GROUPS, i.s) | (i.t != 0))
     } else {
         (REGISTERS <= i.target)
-            | (outside(ADD, CUT, i.kind) | ((REGISTERS <= i.s) | (REGISTERS <= i.t)))
+            | (((i.kind < ADD) | (CUT < i.kind)) | ((REGISTERS <= i.s) | (REGISTERS <= i.t)))
     }
 }
 
@@ -259,7 +260,7 @@ fn wrong_patch(patch: &[u16]) -> bool
 
 // The number of the first fault, 0 if there is none.
 fn fault(code: &[u16], patch: &[u16], lamps: &[u8]) -> u16
-    ensures { λ r. ⌜ r ≡ fault (now (code .entry)) (now (patch .entry)) (now (lamps .entry)) ⌝ }
+    ensures { λ r. ⌜ r ≡ playFault (now (code .entry)) (now (patch .entry)) (now (lamps .entry)) ⌝ }
 {
     if lamps.len() < BYTES {
         return 21;

@@ -1,5 +1,8 @@
 // Plays the cases that 01 names in "The player". Before each, every byte holds 165. A line has the case, the number answered,
 // how many bytes still hold 165, and each other byte that is not 0, as position=value in hexadecimal.
+use player::ADD;
+use player::CUT;
+use player::LOAD;
 use player::Played;
 
 const BEFORE: u8 = 165;
@@ -67,17 +70,17 @@ fn instruction(label: &[u8], kind: u16, target: u16, s: u16, t: u16) {
 
 // One pair, after lamp 1 in group 7, which is loaded.
 fn pair(label: &[u8], group: u16, lamp: u16) {
-    case(label, &[1, 0, 7, 0], &[7, 1, group, lamp]);
+    case(label, &[LOAD, 0, 7, 0], &[7, 1, group, lamp]);
 }
 
 // Faults 21 and 22.
 fn lengths() {
-    show(b"63 bytes", &[1, 0, 7, 0], &[7, 1], &mut [BEFORE; 63]);
-    show(b"64 bytes", &[1, 0, 7, 0], &[7, 1], &mut [BEFORE; 64]);
+    show(b"63 bytes", &[LOAD, 0, 7, 0], &[7, 1], &mut [BEFORE; 63]);
+    show(b"64 bytes", &[LOAD, 0, 7, 0], &[7, 1], &mut [BEFORE; 64]);
     case(b"0 instructions", &[], &[7, 1]);
     case(
         b"a length that four does not divide",
-        &[1, 0, 7, 0, 1],
+        &[LOAD, 0, 7, 0, LOAD],
         &[7, 1],
     );
 }
@@ -92,29 +95,29 @@ fn most_instructions() {
 fn registers() {
     instruction(b"kind 0", 0, 0, 1, 2);
     instruction(b"kind 4", 4, 0, 1, 2);
-    instruction(b"target 13", 1, 13, 7, 0);
-    instruction(b"first operand 13", 2, 0, 13, 0);
-    instruction(b"second operand 13", 3, 0, 0, 13);
-    instruction(b"registers 12", 3, 12, 12, 12);
+    instruction(b"target 13", LOAD, 13, 7, 0);
+    instruction(b"first operand 13", ADD, 0, 13, 0);
+    instruction(b"second operand 13", CUT, 0, 0, 13);
+    instruction(b"registers 12", CUT, 12, 12, 12);
 }
 
 fn loads() {
-    instruction(b"group 0", 1, 0, 0, 0);
-    instruction(b"group 9999", 1, 0, 9999, 0);
-    instruction(b"group 10000", 1, 0, 10000, 0);
-    instruction(b"LOAD with a last number not 0", 1, 0, 7, 1);
+    instruction(b"group 0", LOAD, 0, 0, 0);
+    instruction(b"group 9999", LOAD, 0, 9999, 0);
+    instruction(b"group 10000", LOAD, 0, 10000, 0);
+    instruction(b"LOAD with a last number not 0", LOAD, 0, 7, 1);
     case(
         b"a fault in the second instruction",
-        &[1, 0, 7, 0, 4, 0, 0, 0],
+        &[LOAD, 0, 7, 0, 4, 0, 0, 0],
         &[7, 1],
     );
 }
 
 // Fault 24.
 fn patches() {
-    case(b"a patch of odd length", &[1, 0, 7, 0], &[7, 1, 7]);
-    case(b"4096 pairs", &[1, 0, 1, 0], &[1; 8192]);
-    case(b"4097 pairs", &[1, 0, 1, 0], &[1; 8194]);
+    case(b"a patch of odd length", &[LOAD, 0, 7, 0], &[7, 1, 7]);
+    case(b"4096 pairs", &[LOAD, 0, 1, 0], &[1; 8192]);
+    case(b"4097 pairs", &[LOAD, 0, 1, 0], &[1; 8194]);
 }
 
 // Fault 25.
@@ -137,46 +140,46 @@ fn faults() {
 fn later_faults() {
     case(b"23 and 24", &[4, 0, 0, 0], &[7]);
     case(b"23 and 25", &[4, 0, 0, 0], &[7, 513]);
-    case(b"24 and 25", &[1, 0, 7, 0], &[7, 513, 7]);
+    case(b"24 and 25", &[LOAD, 0, 7, 0], &[7, 513, 7]);
 }
 
 // Lamps that are lit.
 fn lit() {
     case(
         b"lamps 1 8 9 64 65 512",
-        &[1, 0, 7, 0],
+        &[LOAD, 0, 7, 0],
         &[7, 1, 7, 8, 7, 9, 7, 64, 7, 65, 7, 512],
     );
-    case(b"a pair given twice", &[1, 0, 7, 0], &[7, 3, 7, 3]);
-    case(b"a group without a pair", &[1, 0, 8, 0], &[7, 3]);
-    case(b"an empty patch", &[1, 0, 7, 0], &[]);
+    case(b"a pair given twice", &[LOAD, 0, 7, 0], &[7, 3, 7, 3]);
+    case(b"a group without a pair", &[LOAD, 0, 8, 0], &[7, 3]);
+    case(b"an empty patch", &[LOAD, 0, 7, 0], &[]);
 }
 
 // Lamps of ADD and CUT.
 fn operations() {
     case(
         b"ADD of 1 2 and 2 3",
-        &[1, 0, 7, 0, 1, 1, 8, 0, 2, 0, 0, 1],
+        &[LOAD, 0, 7, 0, LOAD, 1, 8, 0, ADD, 0, 0, 1],
         &[7, 1, 7, 2, 8, 2, 8, 3],
     );
     case(
         b"CUT of 1 2 and 2 3",
-        &[1, 0, 7, 0, 1, 1, 8, 0, 3, 0, 0, 1],
+        &[LOAD, 0, 7, 0, LOAD, 1, 8, 0, CUT, 0, 0, 1],
         &[7, 1, 7, 2, 8, 2, 8, 3],
     );
     case(
         b"CUT of 2 3 and 1 2",
-        &[1, 0, 7, 0, 1, 1, 8, 0, 3, 0, 1, 0],
+        &[LOAD, 0, 7, 0, LOAD, 1, 8, 0, CUT, 0, 1, 0],
         &[7, 1, 7, 2, 8, 2, 8, 3],
     );
 }
 
 // Lamps by the register.
 fn answers() {
-    case(b"an answer only in register 1", &[1, 1, 7, 0], &[7, 1]);
+    case(b"an answer only in register 1", &[LOAD, 1, 7, 0], &[7, 1]);
     case(
         b"through register 12",
-        &[1, 12, 7, 0, 2, 0, 12, 3],
+        &[LOAD, 12, 7, 0, ADD, 0, 12, 3],
         &[7, 100],
     );
 }

@@ -3,35 +3,51 @@
 use mathlib.Core.Path.{_≡_, refl, sym, ap, _∙_}
 use mathlib.Core.Bool.{Bool, true, false, cond}
 use mathlib.Core.List.{List, [], _∷_, _++_}
+use mathlib.Core.Option.{some}
 use Prim.Native.Nat.{ℕ, zero, suc, _+_, _≤_, _<_}
 use native.Mathlib.Omega.{arith}
 use borrow.Author.Tests.{eqb-true, eqb-false, ltb-true, ltb-false}
 use lib.Dec.{eqb, ltb}
 use lib.ListN.{length, replicate, take, drop}
-use Rattle.tree.specs.Tree.{Tree, mostNodes, postfix, size, isIn, collect, groups}
+use Rattle.tree.specs.Tree.{Tree, mostNodes, postfix, size, isIn, collect, groups, leaves, mostGroups}
+use Rattle.tree.specs.InnerGroups.{Distinct, leavesIn}
 use Rattle.tree.specs.Parse.{treeOf}
 use Rattle.tree.proofs.TreeLaws.{postfix-length}
-use Rattle.tree.proofs.GroupLaws.{groups-leaves}
+use Rattle.tree.proofs.GroupLaws.{groups-leaves, leaves-postfix}
 use Rattle.tree.proofs.ParseLaws.{parse-sound, tree-of-postfix}
 use Rattle.tree.proofs.WritingLaws.{take-over}
 use Rattle.text.specs.Parts.{Parts, last, part, split}
 use Rattle.text.specs.Line.{lineFeed}
-use Rattle.sheet.specs.Form.{lineOf, lineAt}
-use Rattle.sheet.specs.Reading.{mostBytes, mostGroups, mostSheetNodes, LiftLine, State, ended, trees, faultOf, next, blank, Outcome, accepted, refused, run, readWithin, reading, answer}
-use Rattle.sheet.specs.Accepted.{LiftRange, LiftsTo, Accepted}
-use Rattle.sheet.specs.Holding.{InRange, groupsIn, Sound}
+use Rattle.sheet.specs.Form.{lineOf}
+use Rattle.sheet.specs.InnerLines.{lineAt, LiftRange, LiftsTo}
+use Rattle.sheet.specs.Reading.{mostBytes, mostSheetNodes, LiftLine, ReadingState, ended, trees, faultOf, entered, stateAfter, nothingRead, ReadingOutcome, accepted, refused, readLines, readWithin, reading, sheetOf}
+use Rattle.sheet.specs.InnerHolding.{InRange, Sound}
 use Rattle.sheet.specs.declared.Line.{Line}
 use Rattle.sheet.specs.declared.Line.the-variants.{Group, Operator, Lift, Mark, End, Bad}
-use Rattle.sheet.proofs.EntriesLaws.{one-tree, groups-postfix}
-use Rattle.sheet.proofs.LineAtLaws.{line-at-range, one-line, run-end}
-use Rattle.sheet.proofs.SoundLaws.{order-none, order-of, sound-next, sound-blank}
+use Rattle.sheet.proofs.EntriesLaws.{one-tree}
+use Rattle.sheet.proofs.LineAtLaws.{line-at-range, one-line, lines-end}
+use Rattle.sheet.proofs.SoundLaws.{order-none, order-of, sound-next, sound-nothing-read}
 use Rattle.sheet.proofs.HoldLaws.{marks-few}
 
-no-outcome : {st : State} {n line : ℕ} {X : Type 0} → refused n line ≡ accepted st → X
+-- what reading accepted: one tree within the limits, marks that are groups of it, each once, and lifts that stand line by line
+-- from the byte `start` on
+pub record Accepted (most : ℕ) (sheet : List ℕ) (st : ReadingState) : Type 0 where
+  pub tree : Tree
+  pub is : treeOf (st .entries) ≡ some tree
+  pub list : st .entries ≡ postfix tree
+  pub nodes : size tree ≤ most
+  pub different : length (groups tree) ≤ mostGroups
+  pub once : Distinct (st .marks)
+  pub marked : (g : ℕ) → isIn (st .marks) g ≡ true → isIn (leaves tree) g ≡ true
+  pub few : length (st .marks) ≤ mostGroups
+  pub end : ℕ
+  pub asked : LiftsTo sheet (st .start) (st .lifts) end
+
+no-outcome : {st : ReadingState} {n line : ℕ} {X : Type 0} → refused n line ≡ accepted st → X
 no-outcome e = absurd (let z : _≡_ {A = ℕ} 0 1 = cc in omega arith)
 
 -- ---- the lifts read so far: the byte after them is the next line's until a mark or the end comes
-record Path (s : List ℕ) (st : State) (at : ℕ) : Type 0 where
+record Path (s : List ℕ) (st : ReadingState) (at : ℕ) : Type 0 where
   to : ℕ
   lifts : LiftsTo s (st .start) (st .lifts) to
   here : st .phase ≤ 1 → to ≡ at
@@ -47,19 +63,19 @@ unfolding LiftsTo
 lifts-snoc s from at [] m e l r = rw e (l, r, refl)
 lifts-snoc s from at (k ∷ ms) m e l r = (e .0, e .1, lifts-snoc s (lineAt s from .next) at ms m (e .2) l r)
 
-path-entered : (s : List ℕ) (st : State) (at x after : ℕ) (gs : List ℕ) → Path s st at → st .phase ≤ 0
-    → Path s (record { phase = st .phase; entries = st .entries ++ (x ∷ []); groups = gs; marks = st .marks; start = after; lifts = st .lifts }) after
+path-entered : (s : List ℕ) (st : ReadingState) (at x after : ℕ) (gs : List ℕ) → Path s st at → st .phase ≤ 0
+    → Path s (entered st x gs after) after
 path-entered s st at x after gs p h =
     let e = p .none-yet h in
     record { to = after; lifts = rw e (lifts-none s after); here = λ _. refl; none-yet = λ _. e }
 
-path-over : (s : List ℕ) (st : State) (at after phase : ℕ) (ms : List ℕ) → Path s st at → 1 < phase
+path-over : (s : List ℕ) (st : ReadingState) (at after phase : ℕ) (ms : List ℕ) → Path s st at → 1 < phase
     → Path s (record { phase = phase; entries = st .entries; groups = st .groups; marks = ms; start = st .start; lifts = st .lifts }) after
 path-over s st at after phase ms p h =
     record { to = p .to; lifts = p .lifts; here = λ z. absurd (omega arith); none-yet = λ z. absurd (omega arith) }
 
-path-next : (most : ℕ) (s : List ℕ) (st : State) (at : ℕ) (l : Line) → Path s st at → lineAt s at .line ≡ l → InRange l → faultOf most st l ≡ 0
-    → Path s (next st l (lineAt s at .next)) (lineAt s at .next)
+path-next : (most : ℕ) (s : List ℕ) (st : ReadingState) (at : ℕ) (l : Line) → Path s st at → lineAt s at .line ≡ l → InRange l → faultOf most st l ≡ 0
+    → Path s (stateAfter st l (lineAt s at .next)) (lineAt s at .next)
 path-next most s st at Bad p q r e = absurd (unfold faultOf in let z : _≡_ {A = ℕ} 2 0 = e in omega arith)
 path-next most s st at (Group g) p q r e = path-entered s st at g _ _ p (order-none (st .phase) (length (trees (st .entries))) 0 (order-of most st (Group g) e) .0)
 path-next most s st at (Operator x) p q r e = path-entered s st at x _ _ p (order-none (st .phase) (length (trees (st .entries))) 0 (order-of most st (Operator x) e) .0)
@@ -75,19 +91,18 @@ path-next most s st at (Mark g) p q r e = path-over s st at _ 2 _ p (omega arith
 path-next most s st at End p q r e = path-over s st at _ ended _ p (omega arith)
 
 -- ---- at the end
-accepted-of : (most : ℕ) (s : List ℕ) (st : State) (at : ℕ) → most ≤ mostNodes → Sound most st → Path s st at → st .phase ≡ ended → Accepted most s st
+accepted-of : (most : ℕ) (s : List ℕ) (st : ReadingState) (at : ℕ) → most ≤ mostNodes → Sound most st → Path s st at → st .phase ≡ ended → Accepted most s st
 accepted-of most s st at m S p e =
     let w = one-tree (st .entries) (S .forest) (S .one (λ z. omega (arith, e))) in
     let t : Tree = w .0 in
     let l : st .entries ≡ postfix t = parse-sound (st .entries) t (w .1) in
     let n : size t ≤ most = omega (arith, S .nodes, ap length l, postfix-length t) in
-    let k : st .groups ≡ groups t = S .known ∙ ap (λ (xs : List ℕ). collect [] (groupsIn xs)) l ∙ ap (collect []) (groups-postfix t) in
+    let k : st .groups ≡ groups t = S .known ∙ ap (λ (xs : List ℕ). collect [] (leavesIn xs)) l ∙ ap (collect []) (leaves-postfix t) in
     record {
       tree = t;
       is = ap treeOf l ∙ tree-of-postfix t (omega arith);
       list = l;
       nodes = n;
-      known = k;
       different = rw k at (S .different);
       once = S .once;
       marked = λ g i. sym (groups-leaves t g) ∙ ap (λ (xs : List ℕ). isIn xs g) (sym k) ∙ S .marked g i;
@@ -97,18 +112,22 @@ accepted-of most s st at m S p e =
     }
 
 -- ---- line by line; `fuel` bounds how many bytes are left
-module _ (most : ℕ) (s : List ℕ) (m : most ≤ mostNodes) (end : State) where
-  at-end : (st : State) (n at : ℕ) → Sound most st → Path s st at → cond (eqb (st .phase) ended) (accepted st) (refused 10 (n + 1)) ≡ accepted end → Accepted most s end
+module _ (most : ℕ) (s : List ℕ) (m : most ≤ mostNodes) (end : ReadingState) where
+  at-end : (st : ReadingState) (n at : ℕ) → Sound most st → Path s st at → cond (eqb (st .phase) ended) (accepted st) (refused 10 (n + 1)) ≡ accepted end → Accepted most s end
   at-end st n at S p e = go (eqb (st .phase) ended) refl e
     where
       go : (b : Bool) → eqb (st .phase) ended ≡ b → cond b (accepted st) (refused 10 (n + 1)) ≡ accepted end → Accepted most s end
       go true q e = let z : st ≡ end = cc in rw z at (accepted-of most s st at m S p (eqb-true (st .phase) ended q))
       go false q e = no-outcome e
 
-  accepted-run : (fuel : ℕ) (st : State) (n at : ℕ) → length s ≤ at + fuel → Sound most st → Path s st at
-      → run most st n at (split lineFeed (drop at s)) ≡ accepted end → Accepted most s end
-  accepted-run zero st n at f S p e = at-end st n at S p (sym (run-end most st n at s (omega arith)) ∙ e)
-  accepted-run (suc fuel) st n at f S p e = go (ltb at (length s)) refl (accepted-run fuel)
+  -- what is shown of each state on the way: if reading from there accepts `end`, `end` has what an accepted sheet has
+  abbrev Ends : ℕ → Type 0
+  Ends fuel = (st : ReadingState) (n at : ℕ) → length s ≤ at + fuel → Sound most st → Path s st at
+      → readLines most st n at (split lineFeed (drop at s)) ≡ accepted end → Accepted most s end
+
+  accepted-lines : (fuel : ℕ) → Ends fuel
+  accepted-lines zero st n at f S p e = at-end st n at S p (sym (lines-end most st n at s (omega arith)) ∙ e)
+  accepted-lines (suc fuel) st n at f S p e = go (ltb at (length s)) refl (accepted-lines fuel)
     where
       l : Line
       l = lineAt s at .line
@@ -116,88 +135,82 @@ module _ (most : ℕ) (s : List ℕ) (m : most ≤ mostNodes) (end : State) wher
       to : ℕ
       to = lineAt s at .next
 
-      more : at < length s → ((st : State) (n at : ℕ) → length s ≤ at + fuel → Sound most st → Path s st at → run most st n at (split lineFeed (drop at s)) ≡ accepted end → Accepted most s end)
-          → (b : Bool) → eqb (faultOf most st l) 0 ≡ b → cond b (run most (next st l to) (n + 1) to (split lineFeed (drop to s))) (refused (faultOf most st l) (n + 1)) ≡ accepted end
+      more : at < length s → Ends fuel → (b : Bool) → eqb (faultOf most st l) 0 ≡ b → cond b (readLines most (stateAfter st l to) (n + 1) to (split lineFeed (drop to s))) (refused (faultOf most st l) (n + 1)) ≡ accepted end
           → Accepted most s end
       more h ih true q e =
           let z = eqb-true (faultOf most st l) 0 q in
-          ih (next st l to) (n + 1) to (omega (arith, one-line most s at h .more)) (sound-next most st S l to (line-at-range s at) z) (path-next most s st at l p refl (line-at-range s at) z) e
+          ih (stateAfter st l to) (n + 1) to (omega (arith, one-line most s at h .more)) (sound-next most st S l to (line-at-range s at) z) (path-next most s st at l p refl (line-at-range s at) z) e
       more h ih false q e = no-outcome e
 
-      go : (b : Bool) → ltb at (length s) ≡ b
-          → ((st : State) (n at : ℕ) → length s ≤ at + fuel → Sound most st → Path s st at → run most st n at (split lineFeed (drop at s)) ≡ accepted end → Accepted most s end)
-          → Accepted most s end
+      go : (b : Bool) → ltb at (length s) ≡ b → Ends fuel → Accepted most s end
       go true q ih = let h = ltb-true at (length s) q in more h ih (eqb (faultOf most st l) 0) refl (sym (one-line most s at h .goes st n) ∙ e)
-      go false q ih = at-end st n at S p (sym (run-end most st n at s (ltb-false at (length s) q)) ∙ e)
+      go false q ih = at-end st n at S p (sym (lines-end most st n at s (ltb-false at (length s) q)) ∙ e)
 
   pub accepted-within : readWithin most s ≡ accepted end → Accepted most s end
   unfolding readWithin
   accepted-within e = go (ltb mostBytes (length s)) e
     where
-      start : Path s blank 0
+      start : Path s nothingRead 0
       start = record { to = 0; lifts = lifts-none s 0; here = λ _. refl; none-yet = λ _. refl }
 
-      go : (b : Bool) → cond b (refused 1 0) (run most blank 0 0 (split lineFeed s)) ≡ accepted end → Accepted most s end
+      go : (b : Bool) → cond b (refused 1 0) (readLines most nothingRead 0 0 (split lineFeed s)) ≡ accepted end → Accepted most s end
       go true e = no-outcome e
-      go false e = accepted-run (length s) blank 0 0 (omega arith) (sound-blank most) start e
+      go false e = accepted-lines (length s) nothingRead 0 0 (omega arith) (sound-nothing-read most) start e
 
 -- what an accepted sheet has
-pub accepted-sheet : (s : List ℕ) (st : State) → reading s ≡ accepted st → Accepted mostSheetNodes s st
+pub accepted-sheet : (s : List ℕ) (st : ReadingState) → reading s ≡ accepted st → Accepted mostSheetNodes s st
 accepted-sheet s st e = accepted-within mostSheetNodes s (omega arith) st e
 
 -- ---- a refusal's number is not 0, so that the number tells
-refused-run : (most : ℕ) (ps : Parts) (st : State) (n at number line : ℕ) → run most st n at ps ≡ refused number line → number ≡ 0 → ⊥
-unfolding run
-refused-run most (last l) st n at number line e z = go (eqb (length l) 0) (eqb (st .phase) ended) e
+refused-line : (o : ReadingOutcome) (f n number line : ℕ) → cond (eqb f 0) o (refused f n) ≡ refused number line
+    → (o ≡ refused number line → number ≡ 0 → ⊥) → number ≡ 0 → ⊥
+refused-line o f n number line e later z = go (eqb f 0) refl e
+  where
+    go : (b : Bool) → eqb f 0 ≡ b → cond b o (refused f n) ≡ refused number line → ⊥
+    go true q e = later e z
+    go false q e = let r : f ≡ number = cc in eqb-false f 0 q (r ∙ z)
+
+refused-lines : (most : ℕ) (ps : Parts) (st : ReadingState) (n at number line : ℕ) → readLines most st n at ps ≡ refused number line → number ≡ 0 → ⊥
+unfolding readLines
+refused-lines most (last l) st n at number line e z = go (eqb (length l) 0) (eqb (st .phase) ended) e
   where
     go : (a b : Bool) → cond a (cond b (accepted st) (refused 10 (n + 1))) (refused 2 (n + 1)) ≡ refused number line → ⊥
     go true true e = let q : _≡_ {A = ℕ} 0 1 = cc in omega arith
     go true false e = let q : number ≡ 10 = cc in omega arith
     go false b e = let q : number ≡ 2 = cc in omega arith
-refused-run most (part l ls) st n at number line e z = go (eqb (faultOf most st (lineOf l)) 0) refl e (refused-run most ls (next st (lineOf l) (at + length l + 1)) (n + 1) (at + length l + 1) number line)
-  where
-    go : (b : Bool) → eqb (faultOf most st (lineOf l)) 0 ≡ b
-        → cond b (run most (next st (lineOf l) (at + length l + 1)) (n + 1) (at + length l + 1) ls) (refused (faultOf most st (lineOf l)) (n + 1)) ≡ refused number line
-        → (run most (next st (lineOf l) (at + length l + 1)) (n + 1) (at + length l + 1) ls ≡ refused number line → number ≡ 0 → ⊥) → ⊥
-    go true q e ih = ih e z
-    go false q e ih = let r : faultOf most st (lineOf l) ≡ number = cc in eqb-false (faultOf most st (lineOf l)) 0 q (r ∙ z)
+refused-lines most (part l ls) st n at number line e z =
+    refused-line _ (faultOf most st (lineOf l)) (n + 1) number line e (refused-lines most ls _ _ _ number line) z
 
 pub refused-number : (most : ℕ) (s : List ℕ) (number line : ℕ) → readWithin most s ≡ refused number line → number ≡ 0 → ⊥
 unfolding readWithin
 refused-number most s number line e z = go (ltb mostBytes (length s)) e
   where
-    go : (b : Bool) → cond b (refused 1 0) (run most blank 0 0 (split lineFeed s)) ≡ refused number line → ⊥
+    go : (b : Bool) → cond b (refused 1 0) (readLines most nothingRead 0 0 (split lineFeed s)) ≡ refused number line → ⊥
     go true e = let q : number ≡ 1 = cc in omega arith
-    go false e = refused-run most (split lineFeed s) blank 0 0 number line e z
+    go false e = refused-lines most (split lineFeed s) nothingRead 0 0 number line e z
 
 -- what `read`'s number tells: 0 for an accepted sheet, else the refusal
-pub number-accepted : (s : List ℕ) → answer (reading s) .number ≡ 0 → (st : State) × (reading s ≡ accepted st)
-unfolding answer
+pub number-accepted : (s : List ℕ) → sheetOf (reading s) .number ≡ 0 → (st : ReadingState) × (reading s ≡ accepted st)
+unfolding sheetOf
 number-accepted s e = go (reading s) refl e
   where
-    go : (o : Outcome) → reading s ≡ o → answer o .number ≡ 0 → (st : State) × (reading s ≡ accepted st)
+    go : (o : ReadingOutcome) → reading s ≡ o → sheetOf o .number ≡ 0 → (st : ReadingState) × (reading s ≡ accepted st)
     go (accepted st) q e = (st, q)
     go (refused number line) q e = absurd (refused-number mostSheetNodes s number line q e)
 
-pub number-refused : (s : List ℕ) → (answer (reading s) .number ≡ 0 → ⊥) → reading s ≡ refused (answer (reading s) .number) (answer (reading s) .line)
-unfolding answer
+pub number-refused : (s : List ℕ) → (sheetOf (reading s) .number ≡ 0 → ⊥) → reading s ≡ refused (sheetOf (reading s) .number) (sheetOf (reading s) .line)
+unfolding sheetOf
 number-refused s n = go (reading s) refl n
   where
-    go : (o : Outcome) → reading s ≡ o → (answer o .number ≡ 0 → ⊥) → reading s ≡ refused (answer o .number) (answer o .line)
+    go : (o : ReadingOutcome) → reading s ≡ o → (sheetOf o .number ≡ 0 → ⊥) → reading s ≡ refused (sheetOf o .number) (sheetOf o .line)
     go (accepted st) q n = absurd (n refl)
     go (refused number line) q n = q
 
 -- ---- the arrays of an accepted sheet's answer hold its tree's entries and its marks
-pub answered-tree : (st : State) → take (answer (accepted st) .nodes) (answer (accepted st) .tree) ≡ st .entries
-unfolding answer
+pub answered-tree : (st : ReadingState) → take (sheetOf (accepted st) .nodes) (sheetOf (accepted st) .tree) ≡ st .entries
+unfolding sheetOf
 answered-tree st = take-over (st .entries) (replicate mostSheetNodes 0) (length (st .entries)) refl
 
-pub answered-marks : (st : State) → take (answer (accepted st) .marked) (answer (accepted st) .marks) ≡ st .marks
-unfolding answer
+pub answered-marks : (st : ReadingState) → take (sheetOf (accepted st) .marked) (sheetOf (accepted st) .marks) ≡ st .marks
+unfolding sheetOf
 answered-marks st = take-over (st .marks) (replicate mostGroups 0) (length (st .marks)) refl
-
--- ---- the next lift: its line stands at the present byte, its numbers are in their ranges, and the others follow
-pub lifts-first : (s : List ℕ) (at to : ℕ) (m : LiftLine) (ms : List LiftLine) → LiftsTo s at (m ∷ ms) to
-    → (lineAt s at .line ≡ Lift (m .position) (m .levels)) × LiftRange m × LiftsTo s (lineAt s at .next) ms to
-unfolding LiftsTo
-lifts-first s at to m ms p = p

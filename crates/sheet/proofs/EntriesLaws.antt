@@ -1,18 +1,16 @@
--- The tree's entries as they are read: the trees that wait after one entry more, and the groups among the entries.
-use mathlib.Core.Path.{_≡_, refl, sym, ap, subst, _∙_}
-use mathlib.Core.Bool.{Bool, true, false, cond}
-use mathlib.Core.List.{List, [], _∷_, _++_, append-nil}
+-- The tree's entries as they are read: the trees that wait after one entry more, and the one tree at the end.
+use mathlib.Core.Path.{_≡_, sym, ap, subst, _∙_}
+use mathlib.Core.Bool.{true}
+use mathlib.Core.List.{List, [], _∷_, _++_}
 use mathlib.Core.Option.{Option, some}
-use Prim.Native.Nat.{ℕ, suc, _+_, _-_, _≤_}
+use Prim.Native.Nat.{ℕ, suc, _-_, _≤_}
 use native.Mathlib.Omega.{arith}
 use lib.Dec.{T}
 use lib.ListN.{length}
-use Rattle.tree.specs.Tree.{Operator, union, difference, Tree, leaf, node, isGroup, sign, postfix, leaves}
+use Rattle.tree.specs.Tree.{Operator, Tree, leaf, node, isGroup, sign}
 use Rattle.tree.specs.Parse.{alone, waiting, parse}
-use Rattle.tree.proofs.TreeLaws.{is-true}
 use Rattle.tree.proofs.ParseLaws.{waiting-group, waiting-operator}
 use Rattle.sheet.specs.Reading.{orNone, trees}
-use Rattle.sheet.specs.Holding.{groupsIn}
 
 -- ---- the trees that wait after one entry more
 pub record More (xs : List ℕ) (many : ℕ) : Type 0 where
@@ -47,30 +45,3 @@ one-tree xs e h = go (trees xs) e h
     go [] e h = absurd (omega arith)
     go (t ∷ []) e h = (t, ap alone e)
     go (t ∷ (u ∷ ts)) e h = absurd (omega arith)
-
--- ---- the groups among entries
-pub groups-append : (xs ys : List ℕ) → groupsIn (xs ++ ys) ≡ groupsIn xs ++ groupsIn ys
-unfolding groupsIn
-groups-append [] ys = refl
-groups-append (x ∷ xs) ys = go (isGroup x) (groups-append xs ys)
-  where
-    go : (b : Bool) → groupsIn (xs ++ ys) ≡ groupsIn xs ++ groupsIn ys → cond b (x ∷ groupsIn (xs ++ ys)) (groupsIn (xs ++ ys)) ≡ cond b (x ∷ groupsIn xs) (groupsIn xs) ++ groupsIn ys
-    go true e = ap (λ (l : List ℕ). x ∷ l) e
-    go false e = e
-
-pub groups-one : (g : ℕ) → isGroup g ≡ true → groupsIn (g ∷ []) ≡ g ∷ []
-unfolding groupsIn
-groups-one g h = rw h
-
-pub groups-sign : (o : Operator) → groupsIn (sign o ∷ []) ≡ []
-unfolding groupsIn
-groups-sign union = refl
-groups-sign difference = refl
-
--- those of a tree's list are its leaves
-pub groups-postfix : (t : Tree) → groupsIn (postfix t) ≡ leaves t
-unfolding postfix leaves
-groups-postfix (leaf g h) = groups-one g (is-true (isGroup g) h)
-groups-postfix (node o l r) =
-    groups-append (postfix l) (postfix r ++ (sign o ∷ []))
-    ∙ rw (groups-append (postfix r) (sign o ∷ []), groups-sign o, groups-postfix l, groups-postfix r) (ap (λ (x : List ℕ). leaves l ++ x) (append-nil (leaves r)))

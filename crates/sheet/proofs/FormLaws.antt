@@ -11,13 +11,14 @@ use lib.Dec.{eqb, leb, ltb}
 use lib.ListN.{length, getD, take, drop}
 use lib.Seq.{length-take-le}
 use Rattle.tree.specs.Tree.{union, difference, isGroup, mostGroup, isIn}
-use Rattle.text.specs.Decimal.{decimal, noNumber, capped}
-use Rattle.text.specs.Parts.{Parts, last, part, split, join, ahead}
+use Rattle.text.specs.Decimal.{decimal}
+use Rattle.text.specs.Inner.{noNumber, capped, ahead}
+use Rattle.text.specs.Parts.{Parts, last, part, split, join}
 use Rattle.text.specs.Line.{tab}
 use Rattle.text.proofs.DecimalLaws.{and-both, digits-decimal, digits-free}
 use Rattle.text.proofs.PartsLaws.{split-last, split-all, split-first, join-split}
-use Rattle.sheet.specs.Form.{letterG, letterK, letterL, letterU, letterD, letterE, mostPosition, isPosition, leastLevels, mostLevels, isLevels, letterOf, ranged, bare, oneNumber, twoNumbers, formOf, lineOf}
-use Rattle.sheet.specs.Holding.{InRange}
+use Rattle.sheet.specs.Form.{letterG, letterK, letterL, letterU, letterD, letterE, mostPosition, isPosition, mostLevels, isLevels, letterOf, ranged, bare, oneNumber, twoNumbers, formOf, lineOf}
+use Rattle.sheet.specs.InnerHolding.{InRange}
 use Rattle.sheet.specs.declared.Line.{Line}
 use Rattle.sheet.specs.declared.Line.the-variants.{Group, Lift, Mark, End, Bad}
 
@@ -33,7 +34,7 @@ pub position-cap : (n : ℕ) → noNumber ≤ n → isPosition n ≡ false
 position-cap n h = lt-leb n mostPosition (omega arith)
 
 pub levels-cap : (n : ℕ) → noNumber ≤ n → isLevels n ≡ false
-levels-cap n h = and-second (leb leastLevels n) (leb n mostLevels) (lt-leb n mostLevels (omega arith))
+levels-cap n h = and-second (leb 1 n) (leb n mostLevels) (lt-leb n mostLevels (omega arith))
 
 pub ranged-capped : (passes : ℕ → Bool) (form : ℕ → Line) (o : Option ℕ) (n : ℕ) → n ≡ capped o → ((k : ℕ) → noNumber ≤ k → passes k ≡ false)
     → cond (passes n) (form n) Bad ≡ ranged passes form o
@@ -187,7 +188,7 @@ levels-range : (p : ℕ) → p ≤ mostPosition → (o : Option ℕ) → InRange
 levels-range p h none = tt
 levels-range p h (some n) =
     either (isLevels n) (Lift p n) Bad
-    (λ e. let z = and-both (leb leastLevels n) (leb n mostLevels) e in record { position-most = h; levels-least = leb-true leastLevels n (z .0); levels-most = leb-true n mostLevels (z .1) })
+    (λ e. let z = and-both (leb 1 n) (leb n mostLevels) e in record { position-most = h; levels-least = leb-true 1 n (z .0); levels-most = leb-true n mostLevels (z .1) })
     tt
 
 lift-range : (o u : Option ℕ) → InRange (ranged isPosition (λ p. ranged isLevels (λ n. Lift p n) u) o)

@@ -5,6 +5,6 @@ pub mod FormLaws
 pub mod LineAtLaws
 mod SoundLaws
 mod HoldLaws
-mod RunLaws
+mod LoopLaws
 pub mod AcceptedLaws
 pub mod LiftLineLaws

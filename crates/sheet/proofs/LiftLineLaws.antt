@@ -13,9 +13,9 @@ use Rattle.text.specs.Decimal.{decimal, value, leadingZero, allDigits}
 use Rattle.text.specs.Parts.{Parts, last, part, split, join}
 use Rattle.text.specs.Line.{tab, lineFeed}
 use Rattle.text.proofs.PartsLaws.{join-split}
-use Rattle.sheet.specs.Form.{letterG, letterU, letterD, letterL, letterK, letterE, isPosition, isLevels, letterOf, ranged, bare, oneNumber, twoNumbers, formOf, lineOf, firstLine, lineAt}
+use Rattle.sheet.specs.Form.{letterG, letterU, letterD, letterL, letterK, letterE, isPosition, isLevels, letterOf, ranged, bare, oneNumber, twoNumbers, formOf, lineOf}
+use Rattle.sheet.specs.InnerLines.{firstLine, lineAt, LiftsTo}
 use Rattle.sheet.specs.Reading.{LiftLine}
-use Rattle.sheet.specs.Accepted.{LiftsTo}
 use Rattle.sheet.specs.declared.Line.{Line}
 use Rattle.sheet.specs.declared.Line.the-variants.{Group, Operator, Lift, Mark, End, Bad}
 
@@ -123,4 +123,4 @@ unfolding LiftsTo
 lifts-few sheet at [] to z = omega arith
 lifts-few sheet at (m ∷ ms) to z =
     let w = lift-line-long sheet at (m .position) (m .levels) (z .0) in
-    omega (arith, w .0, w .1, lifts-most sheet (lineAt sheet at .next) ms to (w .1) (z .2))
+    omega (arith, lifts-most sheet at (m ∷ ms) to (omega (arith, w .0, w .1)) z)

@@ -9,12 +9,14 @@ use borrow.Author.Tests.{ne-eqb, ltb-true, ltb-false}
 use lib.Dec.{eqb, ltb}
 use lib.ListN.{length, take, drop, drop-of-length-le, length-drop}
 use lib.Seq.{drop-drop, length-take-le}
-use Rattle.text.specs.Parts.{Parts, last, part, split, ahead}
+use Rattle.text.specs.Parts.{Parts, last, part, split}
+use Rattle.text.specs.Inner.{ahead}
 use Rattle.text.specs.Line.{lineFeed}
 use Rattle.text.proofs.PartsLaws.{split-all, split-first, ahead-most}
-use Rattle.sheet.specs.Form.{lineOf, firstLine, lineAt}
-use Rattle.sheet.specs.Reading.{State, ended, faultOf, next, accepted, refused, run}
-use Rattle.sheet.specs.Holding.{InRange}
+use Rattle.sheet.specs.Form.{lineOf}
+use Rattle.sheet.specs.InnerLines.{firstLine, lineAt}
+use Rattle.sheet.specs.Reading.{ReadingState, ended, faultOf, stateAfter, accepted, refused, readLines}
+use Rattle.sheet.specs.InnerHolding.{InRange}
 use Rattle.sheet.specs.declared.Line.the-variants.{Bad}
 use Rattle.sheet.specs.declared.LineAt.{LineAt}
 use Rattle.sheet.proofs.FormLaws.{line-range}
@@ -46,12 +48,12 @@ line-at-range s at = first-range at (split lineFeed (drop at s))
 pub record OneLine (most : ℕ) (s : List ℕ) (at : ℕ) (here : LineAt) : Type 0 where
   pub more : at < here .next
   pub within : here .next ≤ length s
-  pub goes : (st : State) (n : ℕ) → run most st n at (split lineFeed (drop at s))
-      ≡ cond (eqb (faultOf most st (here .line)) 0) (run most (next st (here .line) (here .next)) (n + 1) (here .next) (split lineFeed (drop (here .next) s)))
+  pub goes : (st : ReadingState) (n : ℕ) → readLines most st n at (split lineFeed (drop at s))
+      ≡ cond (eqb (faultOf most st (here .line)) 0) (readLines most (stateAfter st (here .line) (here .next)) (n + 1) (here .next) (split lineFeed (drop (here .next) s)))
       (refused (faultOf most st (here .line)) (n + 1))
 
 cut-line : (most : ℕ) (s : List ℕ) (at : ℕ) → at < length s → ahead lineFeed (drop at s) ≡ length (drop at s) → OneLine most s at (lineAt s at)
-unfolding run faultOf
+unfolding readLines faultOf
 cut-line most s at h e =
     rw (line-cut s at (ahead lineFeed (drop at s)) refl e) (record {
       more = omega (arith, length-drop at s);
@@ -60,7 +62,7 @@ cut-line most s at h e =
     })
 
 whole-line : (most : ℕ) (s : List ℕ) (at : ℕ) → at < length s → ahead lineFeed (drop at s) < length (drop at s) → OneLine most s at (lineAt s at)
-unfolding run
+unfolding readLines
 whole-line most s at h k =
     let a = ahead lineFeed (drop at s) in
     let q : at + (a + 1) ≡ at + a + 1 = omega arith in
@@ -78,7 +80,7 @@ one-line most s at h = go (ltb (ahead lineFeed (drop at s)) (length (drop at s))
     go false q = cut-line most s at h (omega (arith, ltb-false (ahead lineFeed (drop at s)) (length (drop at s)) q, ahead-most lineFeed (drop at s)))
 
 -- lines used up
-pub run-end : (most : ℕ) (st : State) (n at : ℕ) (s : List ℕ) → length s ≤ at
-    → run most st n at (split lineFeed (drop at s)) ≡ cond (eqb (st .phase) ended) (accepted st) (refused 10 (n + 1))
-unfolding run split
-run-end most st n at s h = rw (drop-of-length-le s h)
+pub lines-end : (most : ℕ) (st : ReadingState) (n at : ℕ) (s : List ℕ) → length s ≤ at
+    → readLines most st n at (split lineFeed (drop at s)) ≡ cond (eqb (st .phase) ended) (accepted st) (refused 10 (n + 1))
+unfolding readLines split
+lines-end most st n at s h = rw (drop-of-length-le s h)

@@ -2,32 +2,33 @@
 use mathlib.Core.Path.{_≡_, refl, sym, ap, _∙_}
 use mathlib.Core.Bool.{Bool, true, false, not, cond, _&&_, true≢false}
 use mathlib.Core.List.{List, [], _∷_, _++_}
-use Prim.Native.Nat.{ℕ, suc, _+_, _-_, _≤_, _<_}
+use Prim.Native.Nat.{ℕ, suc, _-_, _≤_, _<_}
 use native.Mathlib.Omega.{arith}
 use borrow.Author.Tests.{ltb-false, leb-false, eqb-true, eqb-false, eq-eqb, ne-eqb, lt-ltb}
 use lib.Dec.{eqb, leb, ltb}
 use lib.ListN.{length, length-append}
-use Rattle.tree.specs.Tree.{isGroup, isIn, withNew, collect, Distinct}
+use Rattle.tree.specs.Tree.{isGroup, isIn, withNew, collect, mostGroups}
+use Rattle.tree.specs.InnerGroups.{Distinct, leavesIn}
 use Rattle.tree.specs.Pass.{pass}
-use Rattle.tree.proofs.GroupLaws.{end-cases, is-in-new, collect-append, distinct-end}
-use Rattle.sheet.specs.Reading.{mostGroups, LiftLine, State, place, ended, trees, first, formFault, orderFault, kindFault, faultOf, entered, next, blank}
-use Rattle.sheet.specs.Holding.{InRange, groupsIn, Sound}
+use Rattle.tree.proofs.GroupLaws.{end-cases, is-in-new, collect-append, distinct-end, leaves-append, leaves-one, leaves-sign}
+use Rattle.sheet.specs.Reading.{LiftLine, ReadingState, place, ended, trees, firstFault, formFault, orderFault, kindFault, faultOf, entered, stateAfter, nothingRead}
+use Rattle.sheet.specs.InnerHolding.{InRange, Sound}
 use Rattle.sheet.specs.declared.Line.{Line}
 use Rattle.sheet.specs.declared.Line.the-variants.{Group, Operator, Lift, Mark, End, Bad}
-use Rattle.sheet.proofs.EntriesLaws.{More, more-group, more-operator, groups-append, groups-one, groups-sign}
+use Rattle.sheet.proofs.EntriesLaws.{More, more-group, more-operator}
 
 -- ---- the first of two faults
-pub first-none : (f g : ℕ) → first f g ≡ 0 → (f ≡ 0) × (g ≡ 0)
+pub first-none : (f g : ℕ) → firstFault f g ≡ 0 → (f ≡ 0) × (g ≡ 0)
 first-none f g e = go (eqb f 0) refl e
   where
     go : (b : Bool) → eqb f 0 ≡ b → cond b g f ≡ 0 → (f ≡ 0) × (g ≡ 0)
     go true q e = (eqb-true f 0 q, e)
     go false q e = absurd (eqb-false f 0 q e)
 
-pub first-some : (f g : ℕ) → (f ≡ 0 → ⊥) → first f g ≡ f
+pub first-some : (f g : ℕ) → (f ≡ 0 → ⊥) → firstFault f g ≡ f
 first-some f g h = rw (ne-eqb f 0 h)
 
-pub first-second : (f g : ℕ) → f ≡ 0 → first f g ≡ g
+pub first-second : (f g : ℕ) → f ≡ 0 → firstFault f g ≡ g
 first-second f g h = rw (eq-eqb f 0 h)
 
 -- a test that gave no fault
@@ -46,11 +47,11 @@ order-none phase many place e =
     go true q e = eqb-true many 1 q
     go false q e = absurd (true≢false e)
 
-pub order-of : (most : ℕ) (st : State) (l : Line) → faultOf most st l ≡ 0 → orderFault (st .phase) (length (trees (st .entries))) (place l) ≡ 0
+pub order-of : (most : ℕ) (st : ReadingState) (l : Line) → faultOf most st l ≡ 0 → orderFault (st .phase) (length (trees (st .entries))) (place l) ≡ 0
 unfolding faultOf
 order-of most st l e =
     let o = orderFault (st .phase) (length (trees (st .entries))) (place l) in
-    first-none o (kindFault most st l) (first-none (formFault l) (first o (kindFault most st l)) e .1) .0
+    first-none o (kindFault most st l) (first-none (formFault l) (firstFault o (kindFault most st l)) e .1) .0
 
 collect-one : (xs : List ℕ) (g : ℕ) → collect xs (g ∷ []) ≡ withNew xs g
 unfolding collect
@@ -60,7 +61,7 @@ collect-none : (xs : List ℕ) → collect xs [] ≡ xs
 unfolding collect
 collect-none xs = refl
 
-module _ (most : ℕ) (st : State) (S : Sound most st) where
+module _ (most : ℕ) (st : ReadingState) (S : Sound most st) where
   -- after a line that is no tree line one tree waits
   one-waits : (place : ℕ) → 0 < place → orderFault (st .phase) (length (trees (st .entries))) place ≡ 0 → length (trees (st .entries)) ≡ 1
   one-waits place h e = go (eqb (st .phase) 0) refl
@@ -71,12 +72,12 @@ module _ (most : ℕ) (st : State) (S : Sound most st) where
 
   -- one entry more
   sound-entered : (x after many : ℕ) (gs : List ℕ) → st .phase ≤ 0 → length (st .entries) < most → More (st .entries ++ (x ∷ [])) many
-      → gs ≡ collect (collect [] (groupsIn (st .entries))) (groupsIn (x ∷ [])) → length gs ≤ mostGroups
+      → gs ≡ collect (collect [] (leavesIn (st .entries))) (leavesIn (x ∷ [])) → length gs ≤ mostGroups
       → ((g : ℕ) → isIn (st .groups) g ≡ true → isIn gs g ≡ true) → Sound most (entered st x gs after)
   sound-entered x after many gs p h m e k keep = record {
     forest = m .forest;
     nodes = omega (arith, length-append (st .entries) (x ∷ []));
-    known = e ∙ sym (collect-append [] (groupsIn (st .entries)) (groupsIn (x ∷ []))) ∙ ap (collect []) (sym (groups-append (st .entries) (x ∷ [])));
+    known = e ∙ sym (collect-append [] (leavesIn (st .entries)) (leavesIn (x ∷ []))) ∙ ap (collect []) (sym (leaves-append (st .entries) (x ∷ [])));
     different = k;
     once = S .once;
     marked = λ g i. keep g (S .marked g i);
@@ -84,7 +85,7 @@ module _ (most : ℕ) (st : State) (S : Sound most st) where
   }
 
   sound-group : (g after : ℕ) → isGroup g ≡ true → orderFault (st .phase) (length (trees (st .entries))) 0 ≡ 0 → kindFault most st (Group g) ≡ 0
-      → Sound most (next st (Group g) after)
+      → Sound most (stateAfter st (Group g) after)
   sound-group g after r o e =
       let p = order-none (st .phase) (length (trees (st .entries))) 0 o .0 in
       let a = off (leb most (length (st .entries))) 4 _ e in
@@ -97,18 +98,18 @@ module _ (most : ℕ) (st : State) (S : Sound most st) where
       few true e = S .different
       few false e = omega (arith, leb-false mostGroups (length (st .groups)) e, length-append (st .groups) (g ∷ []))
 
-      known-more : (g : ℕ) → isGroup g ≡ true → withNew (st .groups) g ≡ collect (collect [] (groupsIn (st .entries))) (groupsIn (g ∷ []))
-      known-more g r = ap (λ (l : List ℕ). withNew l g) (S .known) ∙ sym (ap (collect (collect [] (groupsIn (st .entries)))) (groups-one g r) ∙ collect-one (collect [] (groupsIn (st .entries))) g)
+      known-more : (g : ℕ) → isGroup g ≡ true → withNew (st .groups) g ≡ collect (collect [] (leavesIn (st .entries))) (leavesIn (g ∷ []))
+      known-more g r = ap (λ (l : List ℕ). withNew l g) (S .known) ∙ sym (ap (collect (collect [] (leavesIn (st .entries)))) (leaves-one g (rw r tt)) ∙ collect-one (collect [] (leavesIn (st .entries))) g)
 
   sound-operator : (x after : ℕ) → InRange (Operator x) → orderFault (st .phase) (length (trees (st .entries))) 0 ≡ 0 → kindFault most st (Operator x) ≡ 0
-      → Sound most (next st (Operator x) after)
+      → Sound most (stateAfter st (Operator x) after)
   sound-operator x after r o e =
       let p = order-none (st .phase) (length (trees (st .entries))) 0 o .0 in
       let a = off (ltb (length (trees (st .entries))) 2) 3 _ e in
       let b = off (leb most (length (st .entries))) 4 0 (a .1) in
       sound-entered x after (length (trees (st .entries)) - 1) (st .groups) p (leb-false most (length (st .entries)) (b .0))
       (more-operator (st .entries) x (r .0) (r .1) (ltb-false (length (trees (st .entries))) 2 (a .0)) (S .forest))
-      (S .known ∙ sym (ap (λ (y : ℕ). collect (collect [] (groupsIn (st .entries))) (groupsIn (y ∷ []))) (r .1) ∙ ap (collect (collect [] (groupsIn (st .entries)))) (groups-sign (r .0)) ∙ collect-none (collect [] (groupsIn (st .entries)))))
+      (S .known ∙ sym (ap (λ (y : ℕ). collect (collect [] (leavesIn (st .entries))) (leavesIn (y ∷ []))) (r .1) ∙ ap (collect (collect [] (leavesIn (st .entries)))) (leaves-sign (r .0)) ∙ collect-none (collect [] (leavesIn (st .entries)))))
       (S .different) (λ g i. i)
 
   -- the tree is over
@@ -124,23 +125,23 @@ module _ (most : ℕ) (st : State) (S : Sound most st) where
     one = λ n. h;
   }
 
-  pub sound-mark : (g after : ℕ) → orderFault (st .phase) (length (trees (st .entries))) 2 ≡ 0 → kindFault most st (Mark g) ≡ 0 → Sound most (next st (Mark g) after)
+  pub sound-mark : (g after : ℕ) → orderFault (st .phase) (length (trees (st .entries))) 2 ≡ 0 → kindFault most st (Mark g) ≡ 0 → Sound most (stateAfter st (Mark g) after)
   sound-mark g after o e = go (isIn (st .groups) g) (isIn (st .marks) g) refl refl e
     where
-      go : (a b : Bool) → isIn (st .groups) g ≡ a → isIn (st .marks) g ≡ b → _≡_ {A = ℕ} (cond a (cond b 9 0) 8) 0 → Sound most (next st (Mark g) after)
+      go : (a b : Bool) → isIn (st .groups) g ≡ a → isIn (st .marks) g ≡ b → _≡_ {A = ℕ} (cond a (cond b 9 0) 8) 0 → Sound most (stateAfter st (Mark g) after)
       go false b p q e = absurd (omega arith)
       go true true p q e = absurd (omega arith)
       go true false p q e =
           sound-over 2 (st .start) (st .marks ++ (g ∷ [])) (st .lifts) (one-waits 2 (omega arith) o) (distinct-end (st .marks) g (S .once) q)
           (λ x i. end-cases _ (st .marks) g x i (S .marked x) (λ r. ap (isIn (st .groups)) r ∙ p))
 
-  pub sound-lift : (p n after : ℕ) → orderFault (st .phase) (length (trees (st .entries))) 1 ≡ 0 → Sound most (next st (Lift p n) after)
+  pub sound-lift : (p n after : ℕ) → orderFault (st .phase) (length (trees (st .entries))) 1 ≡ 0 → Sound most (stateAfter st (Lift p n) after)
   sound-lift p n after o = sound-over 1 (st .start) (st .marks) _ (one-waits 1 (omega arith) o) (S .once) (S .marked)
 
-  pub sound-end : (after : ℕ) → orderFault (st .phase) (length (trees (st .entries))) 3 ≡ 0 → Sound most (next st End after)
+  pub sound-end : (after : ℕ) → orderFault (st .phase) (length (trees (st .entries))) 3 ≡ 0 → Sound most (stateAfter st End after)
   sound-end after o = sound-over ended (st .start) (st .marks) (st .lifts) (one-waits 3 (omega arith) o) (S .once) (S .marked)
 
-  pub sound-next : (l : Line) (after : ℕ) → InRange l → faultOf most st l ≡ 0 → Sound most (next st l after)
+  pub sound-next : (l : Line) (after : ℕ) → InRange l → faultOf most st l ≡ 0 → Sound most (stateAfter st l after)
   unfolding faultOf
   sound-next Bad after r e = absurd (let z : _≡_ {A = ℕ} 2 0 = e in omega arith)
   sound-next (Group g) after r e = let z = first-none _ _ e in sound-group g after r (z .0) (z .1)
@@ -149,9 +150,9 @@ module _ (most : ℕ) (st : State) (S : Sound most st) where
   sound-next (Mark g) after r e = let z = first-none _ _ e in sound-mark g after (z .0) (z .1)
   sound-next End after r e = sound-end after (first-none _ _ e .0)
 
-pub sound-blank : (most : ℕ) → Sound most blank
-unfolding trees pass groupsIn collect Distinct isIn
-sound-blank most = record {
+pub sound-nothing-read : (most : ℕ) → Sound most nothingRead
+unfolding trees pass leavesIn collect Distinct isIn
+sound-nothing-read most = record {
   forest = refl;
   nodes = omega arith;
   known = refl;

@@ -1,19 +1,17 @@
--- Document 01, "The sheet": the forms of its lines.
+-- Document 01, "The sheet": the forms of its lines. A line of any other bytes is `Bad`.
 use mathlib.Core.Bool.{Bool, cond, _&&_}
 use mathlib.Core.List.{List, [], _∷_}
 use mathlib.Core.Option.{Option, some, none}
-use Prim.Native.Nat.{ℕ, _+_}
+use Prim.Native.Nat.{ℕ}
 use lib.Dec.{eqb, leb}
-use lib.ListN.{length, drop}
 use Rattle.tree.specs.Tree.{isGroup, union, difference, sign}
 use Rattle.text.specs.Decimal.{decimal}
 use Rattle.text.specs.Parts.{Parts, last, part, split}
-use Rattle.text.specs.Line.{tab, lineFeed}
+use Rattle.text.specs.Line.{tab}
 use Rattle.sheet.specs.declared.Line.{Line}
 use Rattle.sheet.specs.declared.Line.the-variants.{Group, Operator, Lift, Mark, End, Bad}
-use Rattle.sheet.specs.declared.LineAt.{LineAt}
 
--- the letters of the kinds
+-- the letters of the kinds: "`G`", "`U`", "`D`", "`L`", "`K`", "`E`"
 abbrev pub letterG : ℕ
 letterG = 71
 
@@ -40,14 +38,11 @@ abbrev pub isPosition : ℕ → Bool
 isPosition n = leb n mostPosition
 
 -- "levels (1 to 99)"
-abbrev pub leastLevels : ℕ
-leastLevels = 1
-
 abbrev pub mostLevels : ℕ
 mostLevels = 99
 
 abbrev pub isLevels : ℕ → Bool
-isLevels n = leb leastLevels n && leb n mostLevels
+isLevels n = leb 1 n && leb n mostLevels
 
 -- the letter of a field of one byte; 0, which is no kind's, for any other
 abbrev pub letterOf : List ℕ → ℕ
@@ -55,25 +50,26 @@ letterOf [] = 0
 letterOf (b ∷ []) = b
 letterOf (b ∷ (c ∷ bs)) = 0
 
--- a line with a number that passes a test
+-- a line with a number that passes a test, as "(1 to 9999)"; `Bad` where the field is no number or the number is out of its range
 abbrev pub ranged : (ℕ → Bool) → (ℕ → Line) → Option ℕ → Line
 ranged passes form none = Bad
 ranged passes form (some n) = cond (passes n) (form n) Bad
 
--- "`U`, `D`: the tree"; "`E`: end"
+-- "`U`, `D`: the tree"; "`E`: end." An operator is its number in the tree's list.
 abbrev pub bare : ℕ → Line
 bare kind =
     cond (eqb kind letterU) (Operator (sign union)) (cond (eqb kind letterD) (Operator (sign difference)) (cond (eqb kind letterE) End Bad))
 
--- "`G` group (1 to 9999)"; "`K` group (1 to 9999): a mark"
+-- "`G` group (1 to 9999)"; "`K` group (1 to 9999): a mark."
 abbrev pub oneNumber : ℕ → Option ℕ → Line
 oneNumber kind n = cond (eqb kind letterG) (ranged isGroup Group n) (cond (eqb kind letterK) (ranged isGroup Mark n) Bad)
 
--- "`L` position (0 to 8190) levels (1 to 99): a lift"
+-- "`L` position (0 to 8190) levels (1 to 99): a lift."
 abbrev pub twoNumbers : ℕ → Option ℕ → Option ℕ → Line
 twoNumbers kind p n = cond (eqb kind letterL) (ranged isPosition (λ p. ranged isLevels (λ n. Lift p n) n) p) Bad
 
--- the form of a line with these fields
+-- the form of a line with these fields: a kind alone, with one number or with two. "Decimal fields have no leading zero; nought is
+-- `0`": `decimal`, of `text` specs/Decimal.antt.
 unfoldable pub formOf : Parts → Line
 formOf (last kind) = bare (letterOf kind)
 formOf (part kind (last f)) = oneNumber (letterOf kind) (decimal f)
@@ -83,11 +79,3 @@ formOf (part kind (part f (part g fs))) = Bad
 -- "fields are parted by one tab": the form of a line, given without its LF
 unfoldable pub lineOf : List ℕ → Line
 lineOf bytes = formOf (split tab bytes)
-
--- the line at a byte of a sheet and the byte after it; a last line without LF has no form
-abbrev pub firstLine : ℕ → Parts → LineAt
-firstLine at (last l) = record { line = Bad; next = at + length l }
-firstLine at (part l ls) = record { line = lineOf l; next = at + length l + 1 }
-
-unfoldable pub lineAt : List ℕ → ℕ → LineAt
-lineAt sheet at = firstLine at (split lineFeed (drop at sheet))

@@ -1,4 +1,4 @@
 pub mod Form
 pub mod Reading
-pub mod Accepted
-pub mod Holding
+pub mod InnerHolding
+pub mod InnerLines

@@ -1,11 +1,11 @@
--- Document 01, "The sheet": what reading answers for any bytes, the first fault first.
+-- Document 01, "The sheet": what reading answers for any bytes, the first fault first. specs/Form.antt has the forms of the lines.
 use mathlib.Core.Bool.{not, cond, _&&_}
 use mathlib.Core.List.{List, [], _∷_, _++_}
 use mathlib.Core.Option.{Option, some, none}
 use Prim.Native.Nat.{ℕ, _+_}
 use lib.Dec.{eqb, leb, ltb}
 use lib.ListN.{length, replicate}
-use Rattle.tree.specs.Tree.{Tree, isIn, withNew}
+use Rattle.tree.specs.Tree.{Tree, mostGroups, isIn, withNew}
 use Rattle.tree.specs.Parse.{waiting}
 use Rattle.tree.specs.Writing.{over}
 use Rattle.text.specs.Parts.{Parts, last, part, split}
@@ -19,21 +19,18 @@ use Rattle.sheet.specs.declared.Sheet.{Sheet}
 abbrev pub mostBytes : ℕ
 mostBytes = 60000
 
--- "at most 1,023 nodes and 8 different groups"
+-- "the tree, at most 1,023 nodes and 8 different groups": of groups it is `mostGroups`, of `tree` specs/Tree.antt
 abbrev pub mostSheetNodes : ℕ
 mostSheetNodes = 1023
 
-abbrev pub mostGroups : ℕ
-mostGroups = 8
-
--- "`L` position levels: a lift"
+-- "`L` position .. levels ..: a lift"
 pub record LiftLine : Type 0 where
   pub position : ℕ
   pub levels : ℕ
 
 -- What has been read: the tree's entries and different groups, the marks and the lifts, all in sheet order, and the byte
 -- after the tree lines. `phase` is the place of the last line: lines of a lower place may no longer come.
-pub record State : Type 0 where
+pub record ReadingState : Type 0 where
   pub phase : ℕ
   pub entries : List ℕ
   pub groups : List ℕ
@@ -50,7 +47,7 @@ place (Lift p n) = 1
 place (Mark g) = 2
 place End = 3
 
--- the phase after `E`: nothing may come
+-- the phase after `E`, higher than any place: "then one `E`", "or after `E`"
 abbrev pub ended : ℕ
 ended = 4
 
@@ -59,15 +56,15 @@ abbrev pub orNone : Option (List Tree) → List Tree
 orNone none = []
 orNone (some ts) = ts
 
--- the trees that wait after these entries
+-- the trees that wait after these entries: "trees waiting"
 unfoldable pub trees : List ℕ → List Tree
 trees entries = orNone (waiting 0 entries [])
 
--- the first of two faults; 0 is none
-abbrev pub first : ℕ → ℕ → ℕ
-first f g = cond (eqb f 0) g f
+-- the first of two faults; 0 is none: "the first fault listed is the one given"
+abbrev pub firstFault : ℕ → ℕ → ℕ
+firstFault f g = cond (eqb f 0) g f
 
--- "2 a line of no such form"
+-- "2 a line of no such form" (for "or a last one without LF" see `readLines`)
 abbrev pub formFault : Line → ℕ
 formFault Bad = 2
 formFault (Group g) = 0
@@ -83,7 +80,7 @@ orderFault phase many place = cond (ltb place phase) 3 (cond (eqb phase 0 && ltb
 
 -- "then by kind, in this order: 4 `U` or `D` with fewer than two trees waiting; 5 a 1,024th node; 6 a ninth different group;
 -- 8 a mark of a group not in the tree; 9 a mark twice"
-abbrev pub kindFault : ℕ → State → Line → ℕ
+abbrev pub kindFault : ℕ → ReadingState → Line → ℕ
 kindFault most st (Operator x) = cond (ltb (length (trees (st .entries))) 2) 4 (cond (leb most (length (st .entries))) 5 0)
 kindFault most st (Group g) =
     cond (leb most (length (st .entries))) 5 (cond (not (isIn (st .groups) g) && leb mostGroups (length (st .groups))) 6 0)
@@ -93,78 +90,61 @@ kindFault most st End = 0
 kindFault most st Bad = 0
 
 -- the first fault of a line, where a tree may have `most` nodes; 0 is none
-unfoldable pub faultOf : ℕ → State → Line → ℕ
-faultOf most st l = first (formFault l) (first (orderFault (st .phase) (length (trees (st .entries))) (place l)) (kindFault most st l))
+unfoldable pub faultOf : ℕ → ReadingState → Line → ℕ
+faultOf most st l = firstFault (formFault l) (firstFault (orderFault (st .phase) (length (trees (st .entries))) (place l)) (kindFault most st l))
 
--- one entry more of the tree; `after` is the byte after its line
-abbrev pub entered : State → ℕ → List ℕ → ℕ → State
+-- One entry more of the tree; `after` is the byte after its line. So `start` is "the byte after the tree lines, also when there are
+-- no lifts".
+abbrev pub entered : ReadingState → ℕ → List ℕ → ℕ → ReadingState
 entered st x groups after =
     record { phase = st .phase; entries = st .entries ++ (x ∷ []); groups = groups; marks = st .marks; start = after; lifts = st .lifts }
 
--- what a line without fault adds; `after` is the byte after it
-abbrev pub next : State → Line → ℕ → State
-next st (Group g) after = entered st g (withNew (st .groups) g) after
-next st (Operator x) after = entered st x (st .groups) after
-next st (Lift p n) after =
-    record {
-      phase = place (Lift p n);
-      entries = st .entries;
-      groups = st .groups;
-      marks = st .marks;
-      start = st .start;
-      lifts = st .lifts ++ (record { position = p; levels = n } ∷ []);
-    }
-next st (Mark g) after =
-    record {
-      phase = place (Mark g);
-      entries = st .entries;
-      groups = st .groups;
-      marks = st .marks ++ (g ∷ []);
-      start = st .start;
-      lifts = st .lifts;
-    }
-next st End after =
-    record {
-      phase = ended;
-      entries = st .entries;
-      groups = st .groups;
-      marks = st .marks;
-      start = st .start;
-      lifts = st .lifts;
-    }
-next st Bad after = st
+-- the same in another phase, with these marks and lifts
+abbrev pub withPhase : ReadingState → ℕ → List ℕ → List LiftLine → ReadingState
+withPhase st phase marks lifts = record { phase = phase; entries = st .entries; groups = st .groups; marks = marks; start = st .start; lifts = lifts }
+
+-- what a line without fault adds, behind what came before it: "the marks in sheet order"; `after` is the byte after it
+abbrev pub stateAfter : ReadingState → Line → ℕ → ReadingState
+stateAfter st (Group g) after = entered st g (withNew (st .groups) g) after
+stateAfter st (Operator x) after = entered st x (st .groups) after
+stateAfter st (Lift p n) after = withPhase st (place (Lift p n)) (st .marks) (st .lifts ++ (record { position = p; levels = n } ∷ []))
+stateAfter st (Mark g) after = withPhase st (place (Mark g)) (st .marks ++ (g ∷ [])) (st .lifts)
+stateAfter st End after = withPhase st ended (st .marks) (st .lifts)
+stateAfter st Bad after = st
 
 -- nothing read yet
-abbrev pub blank : State
-blank = record { phase = 0; entries = []; groups = []; marks = []; start = 0; lifts = [] }
+abbrev pub nothingRead : ReadingState
+nothingRead = record { phase = 0; entries = []; groups = []; marks = []; start = 0; lifts = [] }
 
--- what reading comes to: what has been read, or the number and the line of the first fault
-pub data Outcome : Type 0 where
-  accepted : State → Outcome
-  refused : ℕ → ℕ → Outcome
+-- what reading comes to: what has been read, or the first fault: "Reading refuses with a number and a line counted from 1"
+pub data ReadingOutcome : Type 0 where
+  accepted : ReadingState → ReadingOutcome
+  refused : ℕ → ℕ → ReadingOutcome
 
--- "Then for each line in order": reading the lines that are left, the first of them at the byte `at`, with n lines passed.
--- What stands behind the last LF is nothing ("10 when lines are used up without `E`, at the line after the last"), or "a
--- last one without LF" (2).
-unfoldable pub run : ℕ → State → ℕ → ℕ → Parts → Outcome
-run most st n at (last l) =
+-- "Then for each line in order": reading the lines that are left, the first of them at the byte `at`, with n lines passed. "Lines
+-- end in LF (byte 10)": what stands behind the last LF is nothing ("10 when lines are used up without `E`, at the line after the
+-- last"), or "a last one without LF" (2).
+unfoldable pub readLines : ℕ → ReadingState → ℕ → ℕ → Parts → ReadingOutcome
+readLines most st n at (last l) =
     cond (eqb (length l) 0) (cond (eqb (st .phase) ended) (accepted st) (refused 10 (n + 1))) (refused 2 (n + 1))
-run most st n at (part l ls) =
-    cond (eqb (faultOf most st (lineOf l)) 0) (run most (next st (lineOf l) (at + length l + 1)) (n + 1) (at + length l + 1) ls)
+readLines most st n at (part l ls) =
+    cond (eqb (faultOf most st (lineOf l)) 0) (readLines most (stateAfter st (lineOf l) (at + length l + 1)) (n + 1) (at + length l + 1) ls)
     (refused (faultOf most st (lineOf l)) (n + 1))
 
--- reading a sheet whose tree may have `most` nodes
-unfoldable pub readWithin : ℕ → List ℕ → Outcome
-readWithin most sheet = cond (ltb mostBytes (length sheet)) (refused 1 0) (run most blank 0 0 (split lineFeed sheet))
+-- reading a sheet whose tree may have `most` nodes: "1 (line 0) over 60,000 bytes", then its lines. "An empty sheet gets 10 at line
+-- 1": its one part is empty.
+unfoldable pub readWithin : ℕ → List ℕ → ReadingOutcome
+readWithin most sheet = cond (ltb mostBytes (length sheet)) (refused 1 0) (readLines most nothingRead 0 0 (split lineFeed sheet))
 
--- reading a sheet
-abbrev pub reading : List ℕ → Outcome
+-- reading a sheet, within 01's 1,023 nodes
+abbrev pub reading : List ℕ → ReadingOutcome
 reading sheet = readWithin mostSheetNodes sheet
 
--- "Accepted, reading answers by value the tree, the marks in sheet order, the byte where the lifts begin .. and how many
--- there are; entries past the tree's and the marks' ends are 0. Refused, everything but number and line is 0."
-unfoldable pub answer : Outcome → Sheet
-answer (accepted st) =
+-- "Accepted, reading answers by value the tree, the marks in sheet order, the byte where the lifts begin .. and how many there are;
+-- entries past the tree's and the marks' ends are 0. Refused, everything but number and line is 0. It writes to no lent memory":
+-- `read` is lent the sheet to read only.
+unfoldable pub sheetOf : ReadingOutcome → Sheet
+sheetOf (accepted st) =
     record {
       number = 0;
       line = 0;
@@ -175,14 +155,5 @@ answer (accepted st) =
       start = st .start;
       lifts = length (st .lifts);
     }
-answer (refused number line) =
-    record {
-      number = number;
-      line = line;
-      tree = replicate mostSheetNodes 0;
-      nodes = 0;
-      marks = replicate mostGroups 0;
-      marked = 0;
-      start = 0;
-      lifts = 0;
-    }
+sheetOf (refused number line) =
+    record { number = number; line = line; tree = replicate mostSheetNodes 0; nodes = 0; marks = replicate mostGroups 0; marked = 0; start = 0; lifts = 0 }

@@ -1,23 +1,23 @@
 // Reads a sheet.
 ghost use mathlib.Core.Path.{_≡_};
-ghost use mathlib.Core.Bool.{cond};
 ghost use mathlib.Core.List.{List, [], _∷_};
 ghost use mathlib.Core.Option.{Option};
-ghost use Prim.Native.Nat.{ℕ, _+_, _-_, _≤_, _<_};
+ghost use Prim.Native.Nat.{ℕ, _+_, _≤_, _<_};
 ghost use lib.ListN.{length, replicate};
-ghost use Rattle.text.specs.Decimal.{capped};
-ghost use Rattle.text.specs.Parts.{Parts, part, split};
+ghost use Rattle.text.specs.Inner.{capped};
+ghost use Rattle.text.specs.Parts.{part, split};
 ghost use Rattle.text.specs.Line.{tab};
-ghost use Rattle.sheet.specs.Form.{bare, oneNumber, twoNumbers, formOf, lineOf, lineAt};
-ghost use Rattle.sheet.specs.Reading.{mostBytes, mostGroups, State, orderFault, faultOf, next, reading, readWithin, refused, answer};
-ghost use Rattle.sheet.specs.Holding.{InRange, Holds, Holding, Stepped, Gives};
+ghost use Rattle.sheet.specs.Form.{bare, oneNumber, twoNumbers, formOf, lineOf};
+ghost use Rattle.sheet.specs.InnerLines.{lineAt};
+ghost use Rattle.sheet.specs.Reading.{mostBytes, orderFault, reading, refused, sheetOf};
+ghost use Rattle.tree.specs.Tree.{mostGroups};
+ghost use Rattle.sheet.specs.InnerHolding.{Holding, Leads, GivesReading, acceptedSheet};
+use tree::MOST_GROUPS;
 
 // 01's limits.
 pub const MOST_BYTES: usize = 60000;
 
 pub const MOST_SHEET_NODES: usize = 1023;
-
-pub const MOST_GROUPS: usize = 8;
 
 pub const MOST_POSITION: u16 = 8190;
 
@@ -221,8 +221,8 @@ fn order_fault(phase: u8, waiting: usize, place: u8) -> u8
 // Reads a line with a group.
 fn group_step(p: Progress, g: u16, after: usize, tree: &mut [u16], groups: &mut [u16]) -> Progress
     requires { ⌜ (p .line < mostBytes) × ((ms : List ℕ) × Holding (length (now tree)) p (now tree) (now groups) ms) ⌝ }
-    ensures { λ r. ⌜ ((st : State) (ms : List ℕ) → InRange (Line.Group g) → Holds (length (now (tree .entry))) st p (now (tree .entry)) (now (groups .entry)) ms
-        → Stepped (length (now (tree .entry))) st (Line.Group g) after p r (now (tree .exit)) (now (groups .exit)) ms) ⌝ }
+    ensures { λ r. ⌜ ((ms : List ℕ) → Leads (length (now (tree .entry))) (Line.Group g) after p (now (tree .entry)) (now (groups .entry)) ms
+        r (now (tree .exit)) (now (groups .exit)) ms) ⌝ }
 {
     let fault = order_fault(p.phase, p.waiting, TREE);
     if fault != 0 {
@@ -254,8 +254,8 @@ fn group_step(p: Progress, g: u16, after: usize, tree: &mut [u16], groups: &mut 
 // Reads a line with an operator.
 fn operator_step(p: Progress, x: u16, after: usize, tree: &mut [u16]) -> Progress
     requires { ⌜ (p .line < mostBytes) × ((gs : List ℕ) × (ms : List ℕ) × Holding (length (now tree)) p (now tree) gs ms) ⌝ }
-    ensures { λ r. ⌜ ((st : State) (gs ms : List ℕ) → InRange (Line.Operator x) → Holds (length (now (tree .entry))) st p (now (tree .entry)) gs ms
-        → Stepped (length (now (tree .entry))) st (Line.Operator x) after p r (now (tree .exit)) gs ms) ⌝ }
+    ensures { λ r. ⌜ ((gs ms : List ℕ) → Leads (length (now (tree .entry))) (Line.Operator x) after p (now (tree .entry)) gs ms
+        r (now (tree .exit)) gs ms) ⌝ }
 {
     let fault = order_fault(p.phase, p.waiting, TREE);
     if fault != 0 {
@@ -280,8 +280,7 @@ fn operator_step(p: Progress, x: u16, after: usize, tree: &mut [u16]) -> Progres
 // Reads a line with a lift.
 fn lift_step(p: Progress) -> Progress
     requires { ⌜ (p .line < mostBytes) × (p .lifts ≤ p .line) ⌝ }
-    ensures { λ r. ⌜ ((most : ℕ) (st : State) (position levels after : ℕ) (es gs ms : List ℕ) → Holds most st p es gs ms
-        → Stepped most st (Line.Lift position levels) after p r es gs ms) ⌝ }
+    ensures { λ r. ⌜ ((most position levels after : ℕ) (es gs ms : List ℕ) → Leads most (Line.Lift position levels) after p es gs ms r es gs ms) ⌝ }
 {
     let fault = order_fault(p.phase, p.waiting, LIFTS);
     if fault != 0 {
@@ -297,8 +296,8 @@ fn lift_step(p: Progress) -> Progress
 // Reads a line with a mark.
 fn mark_step(p: Progress, g: u16, groups: &[u16], marks: &mut [u16]) -> Progress
     requires { ⌜ (p .line < mostBytes) × ((most : ℕ) × (es : List ℕ) × Holding most p es (now groups) (now marks)) ⌝ }
-    ensures { λ r. ⌜ ((most : ℕ) (st : State) (after : ℕ) (es : List ℕ) → Holds most st p es (now (groups .entry)) (now (marks .entry))
-        → Stepped most st (Line.Mark g) after p r es (now (groups .entry)) (now (marks .exit))) ⌝ }
+    ensures { λ r. ⌜ ((most after : ℕ) (es : List ℕ) → Leads most (Line.Mark g) after p es (now (groups .entry)) (now (marks .entry))
+        r es (now (groups .entry)) (now (marks .exit))) ⌝ }
 {
     let fault = order_fault(p.phase, p.waiting, MARKS);
     if fault != 0 {
@@ -323,8 +322,7 @@ fn mark_step(p: Progress, g: u16, groups: &[u16], marks: &mut [u16]) -> Progress
 // Reads the end.
 fn end_step(p: Progress) -> Progress
     requires { ⌜ p .line < mostBytes ⌝ }
-    ensures { λ r. ⌜ ((most : ℕ) (st : State) (after : ℕ) (es gs ms : List ℕ) → Holds most st p es gs ms
-        → Stepped most st Line.End after p r es gs ms) ⌝ }
+    ensures { λ r. ⌜ ((most after : ℕ) (es gs ms : List ℕ) → Leads most Line.End after p es gs ms r es gs ms) ⌝ }
 {
     let fault = order_fault(p.phase, p.waiting, END);
     if fault != 0 {
@@ -346,8 +344,8 @@ fn step(
     marks: &mut [u16],
 ) -> Progress
     requires { ⌜ (p .line < mostBytes) × Holding (length (now tree)) p (now tree) (now groups) (now marks) ⌝ }
-    ensures { λ r. ⌜ ((st : State) → InRange line → Holds (length (now (tree .entry))) st p (now (tree .entry)) (now (groups .entry)) (now (marks .entry))
-        → Stepped (length (now (tree .entry))) st line after p r (now (tree .exit)) (now (groups .exit)) (now (marks .exit))) ⌝ }
+    ensures { λ r. ⌜ Leads (length (now (tree .entry))) line after p (now (tree .entry)) (now (groups .entry)) (now (marks .entry))
+        r (now (tree .exit)) (now (groups .exit)) (now (marks .exit)) ⌝ }
 {
     match line {
         Line::Bad => faulty(p, NO_FORM),
@@ -362,7 +360,7 @@ fn step(
 // Reads the lines of a sheet into `tree` and `marks`, which hold zeros. The tree may have as many nodes as `tree` has room.
 fn read_lines(sheet: &[u8], tree: &mut [u16], marks: &mut [u16]) -> Progress
     requires { ⌜ (now tree ≡ replicate (length (now tree)) 0) × (now marks ≡ replicate mostGroups 0) ⌝ }
-    ensures { λ r. ⌜ Gives (length (now (tree .entry))) (readWithin (length (now (tree .entry))) (now (sheet .entry))) r (now (tree .exit)) (now (marks .exit)) ⌝ }
+    ensures { λ r. ⌜ GivesReading (length (now (tree .entry))) (now (sheet .entry)) r (now (tree .exit)) (now (marks .exit)) ⌝ }
 {
     let mut p = Progress {
         fault: 0,
@@ -412,7 +410,7 @@ pub struct Sheet {
 
 // The answer for a sheet that is refused.
 fn refusal(number: u8, line: usize) -> Sheet
-    ensures { λ r. ⌜ r ≡ answer (refused number line) ⌝ }
+    ensures { λ r. ⌜ r ≡ sheetOf (refused number line) ⌝ }
 {
     Sheet {
         number: number,
@@ -428,7 +426,7 @@ fn refusal(number: u8, line: usize) -> Sheet
 
 // The answer for a sheet that is accepted.
 fn acceptance(p: Progress, tree: [u16; MOST_SHEET_NODES], marks: [u16; MOST_GROUPS]) -> Sheet
-    ensures { λ r. ⌜ r ≡ record { number = 0; line = 0; tree = tree; nodes = p .nodes; marks = marks; marked = p .marked; start = p .start; lifts = p .lifts } ⌝ }
+    ensures { λ r. ⌜ r ≡ acceptedSheet p tree marks ⌝ }
 {
     Sheet {
         number: 0,
@@ -442,9 +440,9 @@ fn acceptance(p: Progress, tree: [u16; MOST_SHEET_NODES], marks: [u16; MOST_GROU
     }
 }
 
-// Reads a sheet.
+// Reads a sheet. It is lent the sheet to read only, and answers by value.
 pub fn read(sheet: &[u8]) -> Sheet
-    ensures { λ r. ⌜ r ≡ answer (reading (now (sheet .entry))) ⌝ }
+    ensures { λ r. ⌜ r ≡ sheetOf (reading (now (sheet .entry))) ⌝ }
 {
     let mut tree: [u16; MOST_SHEET_NODES] = [0; MOST_SHEET_NODES];
     let mut marks: [u16; MOST_GROUPS] = [0; MOST_GROUPS];

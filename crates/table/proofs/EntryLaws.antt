@@ -10,10 +10,10 @@ use borrow.Author.Tests.{ltb-true, ltb-false}
 use lib.ListN.{length, getD, set, length-append, List·getD-append}
 use lib.Seq.{getD-append-add}
 use Rattle.tree.specs.Tree.{Operator, union, difference, sign, Tree, leaf, node, isGroup, mostGroup, postfix, size, apply, selects}
-use Rattle.tree.specs.Pass.{fold}
+use Rattle.tree.specs.InnerPass.{fold}
 use Rattle.tree.proofs.TreeLaws.{group-most, sign-least}
 use Rattle.tree.proofs.PassLaws.{Passing, passing-group, passing-operator, passing-two, passing-end}
-use Rattle.table.specs.Table.{operatorOf}
+use Rattle.table.specs.InnerTable.{operatorOf}
 
 -- a number that is a group's or an operator's
 abbrev Known : ℕ → Type 0

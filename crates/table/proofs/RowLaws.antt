@@ -10,7 +10,7 @@ use lib.Seq.{take-all, take-suc, getD-set-same, getD-set-other}
 use borrow.Author.Tests.{eqb-true, eqb-false}
 use Rattle.tree.specs.Tree.{isIn}
 use Rattle.tree.proofs.TreeLaws.{or-false, is-in-append}
-use Rattle.table.specs.Table.{filling}
+use Rattle.table.specs.InnerTable.{filling}
 
 -- the groups looked up are as the row has them, the others out
 abbrev pub filled : List ℕ → ℕ → ℕ → ℕ → Bool

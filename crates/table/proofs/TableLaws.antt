@@ -10,11 +10,21 @@ use lib.Pow.{pow-mono}
 use lib.Dec.{eqb}
 use borrow.Author.Tests.{eqb-true, eqb-false, eq-eqb, ne-eqb}
 use lib.ListN.{length, getD, drop, drop-of-length-le}
-use Rattle.tree.specs.Tree.{Tree, selects, Over, Equivalent, isIn, Distinct}
+use Rattle.tree.specs.Tree.{Tree, selects, Over, Equivalent, isIn, mostGroups}
+use Rattle.tree.specs.InnerGroups.{Distinct}
 use Rattle.tree.proofs.TreeLaws.{selects-agree, selects-nothing, equivalent-selects, selects-equivalent}
 use Rattle.tree.proofs.GroupLaws.{is-in-here, in-later}
 use Rattle.tree.proofs.PassLaws.{here}
-use Rattle.table.specs.Table.{rowCount, mostGroups, filling, rowOf, valueAt, tabulate, table, Tabled}
+use Rattle.table.specs.InnerTable.{rowCount, filling, valueAt, tabulate, table}
+
+-- the row of a filling v: its bit k is 1 where v has group k of the list in
+unfoldable pub rowOf : (ℕ → Bool) → List ℕ → ℕ
+rowOf v [] = 0
+rowOf v (x ∷ gs) = cond (v x) 1 0 + 2 * rowOf v gs
+
+-- T has, at every row that the groups gs have, what the tree t selects there
+pub record Tabled (T : ℕ → Bool) (gs : List ℕ) (t : Tree) : Type 0 where
+  pub rows : (i : ℕ) → i < 2 ^ length gs → T i ≡ valueAt gs t i
 
 -- ---- rows and fillings
 pub row-below : (v : ℕ → Bool) (gs : List ℕ) → rowOf v gs < 2 ^ length gs

@@ -4,9 +4,7 @@ ghost use mathlib.Core.Bool.{false};
 ghost use Prim.Native.Nat.{ℕ, _≤_};
 ghost use lib.ListN.{getD};
 ghost use Rattle.tree.specs.Tree.{Tree, mostGroup, postfix, apply};
-ghost use Rattle.table.specs.Table.{filling, valueAt, table, operatorOf, Listed};
-
-pub const MOST_GROUPS: usize = 8;
+ghost use Rattle.table.specs.InnerTable.{filling, valueAt, table, operatorOf, Listed};
 
 pub const ROWS: usize = 256;
 

@@ -13,7 +13,8 @@ use lib.Dec.{eqb, leb, ltb}
 use lib.ListN.{length, getD, drop, length-append, List·getD-append, drop-of-length-le}
 use lib.Seq.{drop-cons}
 use Rattle.tree.specs.Tree.{isIn}
-use Rattle.text.specs.Decimal.{nought, spell, digits, isDigit, allDigits, value, leadingZero, decimal, noNumber, capped, digitAfter}
+use Rattle.text.specs.Decimal.{nought, spell, digits, isDigit, allDigits, value, leadingZero, decimal}
+use Rattle.text.specs.Inner.{noNumber, capped, digitAfter}
 
 -- ---- one digit less
 spell-enough : (j k n : ℕ) → n < j → n < k → spell j n ≡ spell k n
@@ -60,17 +61,12 @@ record Digit (d : ℕ) : Type 0 where
   low : nought ≤ d
   high : d ≤ nought + 9
 
-digit-of : (d : ℕ) → isDigit d ≡ true → Digit d
-digit-of d e = go (leb nought d) (leb d (nought + 9)) refl refl e
-  where
-    go : (a b : Bool) → leb nought d ≡ a → leb d (nought + 9) ≡ b → (a && b) ≡ true → Digit d
-    go true true p q e = record { low = leb-true nought d p; high = leb-true d (nought + 9) q }
-    go true false p q e = absurd (false≢true e)
-    go false b p q e = absurd (false≢true e)
-
 pub and-both : (a b : Bool) → (a && b) ≡ true → (a ≡ true) × (b ≡ true)
 and-both true b e = (refl, e)
 and-both false b e = absurd (false≢true e)
+
+digit-of : (d : ℕ) → isDigit d ≡ true → Digit d
+digit-of d e = let z = and-both (leb nought d) (leb d (nought + 9)) e in record { low = leb-true nought d (z .0); high = leb-true d (nought + 9) (z .1) }
 
 and-false : (a : Bool) → (a && false) ≡ false
 and-false true = refl
@@ -117,12 +113,19 @@ back (suc b) n h = go (ltb n 10) refl (back b (n / 10))
 the-back : (n : ℕ) → Back n
 the-back n = back (suc n) n (omega arith)
 
+-- a first byte other than `0`, or no second byte
+pub lead-other : (f : List ℕ) → (getD f 0 0 ≡ nought → ⊥) → leadingZero f ≡ false
+lead-other f h = rw (ne-eqb (getD f 0 0) nought h) (and-false (ltb 1 (length f)))
+
+pub lead-short : (f : List ℕ) → length f ≤ 1 → leadingZero f ≡ false
+lead-short f h = rw (le-ltb 1 (length f) h)
+
 no-leading : (n : ℕ) → leadingZero (digits n) ≡ false
 no-leading n = go (ltb n 10) refl
   where
     go : (t : Bool) → ltb n 10 ≡ t → leadingZero (digits n) ≡ false
-    go true e = rw (length-small n (ltb-true n 10 e))
-    go false e = rw (ne-eqb (getD (digits n) 0 0) nought (the-back n .lead (omega (arith, ltb-false n 10 e)))) (and-false (ltb 1 (length (digits n))))
+    go true e = lead-short (digits n) (omega (arith, length-small n (ltb-true n 10 e)))
+    go false e = lead-other (digits n) (the-back n .lead (omega (arith, ltb-false n 10 e)))
 
 pub decimal-digits : (n : ℕ) → decimal (digits n) ≡ some n
 unfolding decimal
@@ -212,13 +215,6 @@ after-value (d ∷ ds) v w e = go (isDigit d) (after-value ds (min noNumber (v *
         → after (cond b (min noNumber (v * 10 + (d - nought))) noNumber) ds ≡ cond (b && allDigits ds) (min noNumber (value (w * 10 + (d - nought)) ds)) noNumber
     go true ih = ih (omega arith)
     go false ih = absorb ds
-
--- a first byte other than `0`, or no second byte
-pub lead-other : (f : List ℕ) → (getD f 0 0 ≡ nought → ⊥) → leadingZero f ≡ false
-lead-other f h = rw (ne-eqb (getD f 0 0) nought h) (and-false (ltb 1 (length f)))
-
-pub lead-short : (f : List ℕ) → length f ≤ 1 → leadingZero f ≡ false
-lead-short f h = rw (le-ltb 1 (length f) h)
 
 pub number-start : (f : List ℕ) → (length f ≡ 0 → ⊥) → leadingZero f ≡ false → capped (decimal f) ≡ after 0 f
 unfolding decimal

@@ -11,10 +11,20 @@ use native.Mathlib.Numerals.{add-one}
 use Rattle.tree.specs.Tree.{isIn}
 use Rattle.tree.proofs.TreeLaws.{is-in-append}
 use Rattle.text.specs.Decimal.{digits}
-use Rattle.text.specs.Parts.{part, split, join, Free}
-use Rattle.text.specs.Line.{tab, lineFeed, fields, line, Row, lines, Plain, AllPlain, field, fieldsAfter}
+use Rattle.text.specs.Parts.{part, split, join}
+use Rattle.text.proofs.PartsLaws.{Free, split-part, split-join, split-injective}
+use Rattle.text.specs.Line.{tab, lineFeed, fields, line, Row, lines}
+use Rattle.text.specs.Inner.{field, fieldsAfter}
 use Rattle.text.proofs.DecimalLaws.{digits-free, digits-injective}
-use Rattle.text.proofs.PartsLaws.{split-part, split-join, split-injective}
+
+-- a word of a line has neither a tab nor an LF
+pub record Plain (word : List ℕ) : Type 0 where
+  pub noTab : isIn word tab ≡ false
+  pub noLineFeed : isIn word lineFeed ≡ false
+
+unfoldable pub AllPlain : List Row → Type 0
+AllPlain [] = Unit {0}
+AllPlain (row ∷ rows) = Plain (row .word) × AllPlain rows
 
 -- ---- the fields of a line hold no tab, and the line no LF but its last byte
 fields-free : (word ns : List ℕ) → isIn word tab ≡ false → Free tab (fields word ns)

@@ -11,7 +11,13 @@ use lib.Dec.{eqb}
 use lib.ListN.{length, getD, take, drop, drop-of-length-le, length-drop}
 use lib.Seq.{drop-cons, take-all}
 use Rattle.tree.specs.Tree.{isIn}
-use Rattle.text.specs.Parts.{Parts, last, part, onto, split, join, Free, ahead}
+use Rattle.text.specs.Parts.{Parts, last, part, onto, split, join}
+use Rattle.text.specs.Inner.{ahead}
+
+-- no part has the byte b
+unfoldable pub Free : ℕ → Parts → Type 0
+Free b (last p) = isIn p b ≡ false
+Free b (part p ps) = (isIn p b ≡ false) × Free b ps
 
 -- ---- a part without the parting byte
 or-none : (a b : Bool) → (a || b) ≡ false → (a ≡ false) × (b ≡ false)

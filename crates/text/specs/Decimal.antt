@@ -2,7 +2,7 @@
 use mathlib.Core.Bool.{Bool, true, not, cond, _&&_}
 use mathlib.Core.List.{List, [], _∷_, _++_}
 use mathlib.Core.Option.{Option, some, none}
-use Prim.Native.Nat.{ℕ, zero, suc, _+_, _-_, _*_, _/_, _%_, min}
+use Prim.Native.Nat.{ℕ, zero, suc, _+_, _-_, _*_, _/_, _%_}
 use lib.Dec.{eqb, leb, ltb}
 use lib.ListN.{length, getD}
 
@@ -37,15 +37,3 @@ leadingZero f = ltb 1 (length f) && eqb (getD f 0 0) nought
 -- the number of a decimal field, or none: at least one digit, no leading zero, nothing but digits
 unfoldable pub decimal : List ℕ → Option ℕ
 decimal f = cond (ltb 0 (length f) && not (leadingZero f) && allDigits f) (some (value 0 f)) none
-
--- In code a field's number is at most 65,534; 65,535 stands for every larger one and for what is no number.
-abbrev pub noNumber : ℕ
-noNumber = 65535
-
-abbrev pub capped : Option ℕ → ℕ
-capped none = noNumber
-capped (some n) = min noNumber n
-
--- the number so far with one byte more, in code
-abbrev pub digitAfter : ℕ → ℕ → ℕ
-digitAfter v d = cond (isDigit d) (min noNumber (v * 10 + (d - nought))) noNumber

@@ -1,3 +1,4 @@
 pub mod Decimal
 pub mod Parts
 pub mod Line
+pub mod Inner

@@ -1,9 +1,6 @@
 -- Document 01: "Lines end in LF (byte 10); fields are parted by one tab."
-use mathlib.Core.Path.{_≡_}
-use mathlib.Core.Bool.{false}
 use mathlib.Core.List.{List, [], _∷_, _++_}
 use Prim.Native.Nat.{ℕ}
-use Rattle.tree.specs.Tree.{isIn}
 use Rattle.text.specs.Decimal.{digits}
 use Rattle.text.specs.Parts.{Parts, last, part, join}
 
@@ -31,21 +28,3 @@ pub record Row : Type 0 where
 unfoldable pub lines : List Row → List ℕ
 lines [] = []
 lines (row ∷ rows) = line (row .word) (row .numbers) ++ lines rows
-
--- a word of a line has neither a tab nor an LF
-pub record Plain (word : List ℕ) : Type 0 where
-  pub noTab : isIn word tab ≡ false
-  pub noLineFeed : isIn word lineFeed ≡ false
-
-unfoldable pub AllPlain : List Row → Type 0
-AllPlain [] = Unit {0}
-AllPlain (row ∷ rows) = Plain (row .word) × AllPlain rows
-
--- a field after the first
-abbrev pub field : ℕ → List ℕ
-field n = tab ∷ digits n
-
--- all fields after the first
-unfoldable pub fieldsAfter : List ℕ → List ℕ
-fieldsAfter [] = []
-fieldsAfter (n ∷ ns) = field n ++ fieldsAfter ns

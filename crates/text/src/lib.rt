@@ -3,10 +3,10 @@ ghost use mathlib.Core.Path.{_≡_};
 ghost use mathlib.Core.List.{_∷_, []};
 ghost use Prim.Native.Nat.{_+_, _≤_};
 ghost use lib.ListN.{length};
-ghost use Rattle.tree.specs.Writing.{Wrote};
-ghost use Rattle.text.specs.Decimal.{noNumber, digits, decimal, capped, digitAfter};
-ghost use Rattle.text.specs.Parts.{ahead};
-ghost use Rattle.text.specs.Line.{line, field, fieldsAfter};
+ghost use Rattle.tree.specs.InnerWriting.{Wrote};
+ghost use Rattle.text.specs.Inner.{capped, digitAfter, field, fieldsAfter, ahead};
+ghost use Rattle.text.specs.Decimal.{digits, decimal};
+ghost use Rattle.text.specs.Line.{line};
 
 pub const TAB: u8 = 9;
 

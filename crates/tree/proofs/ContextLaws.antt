@@ -7,10 +7,20 @@ use native.Mathlib.Omega.{arith}
 use borrow.Author.Tests.{ltb-true, ltb-false, lt-ltb, le-ltb}
 use lib.Dec.{ltb}
 use lib.ListN.{length, length-append}
-use Rattle.tree.specs.Tree.{Operator, Tree, leaf, node, postfix, size, selects, Over}
-use Rattle.tree.specs.Context.{left, right, Frame, frame, sided, plug, before, after, position, selectsAbove, OverAbove, Place}
+use Rattle.tree.specs.Tree.{Operator, Tree, leaf, node, postfix, size, selects, sign, apply}
+use Rattle.tree.specs.Context.{left, right, Frame, frame, sided, plug, before, position, Place}
 use Rattle.tree.specs.Parse.{locate}
 use Rattle.tree.proofs.TreeLaws.{postfix-length, size-positive}
+
+unfoldable pub after : List Frame → List ℕ
+after [] = []
+after (frame left o b ∷ c) = postfix b ++ (sign o ∷ after c)
+after (frame right o b ∷ c) = sign o ∷ after c
+
+-- what the whole selects, by what the part selects
+unfoldable pub selectsAbove : (ℕ → Bool) → List Frame → Bool → Bool
+selectsAbove v [] x = x
+selectsAbove v (frame s o b ∷ c) x = selectsAbove v c (sided s (apply o) x (selects v b))
 
 -- a node's part is the stretch that ends at it
 pub postfix-plug : (t : Tree) (c : List Frame) → postfix (plug t c) ≡ before c ++ (postfix t ++ after c)
@@ -34,19 +44,6 @@ pub plug-append : (t : Tree) (c d : List Frame) → plug t (c ++ d) ≡ plug (pl
 unfolding plug
 plug-append t [] d = refl
 plug-append t (frame s o b ∷ c) d = plug-append (sided s (node o) t b) c d
-
--- the leaves of the whole are those of the part and those outside it
-pub over-plug : (m : ℕ → Bool) (t : Tree) (c : List Frame) → Over m t → OverAbove m c → Over m (plug t c)
-unfolding Over OverAbove plug
-over-plug m t [] p q = p
-over-plug m t (frame left o b ∷ c) p q = over-plug m (node o t b) c (p, q .0) (q .1)
-over-plug m t (frame right o b ∷ c) p q = over-plug m (node o b t) c (q .0, p) (q .1)
-
-pub over-part : (m : ℕ → Bool) (t : Tree) (c : List Frame) → Over m (plug t c) → Over m t × OverAbove m c
-unfolding Over OverAbove plug
-over-part m t [] p = (p, tt)
-over-part m t (frame left o b ∷ c) p = let z = over-part m (node o t b) c p in (z .0 .0, (z .0 .1, z .1))
-over-part m t (frame right o b ∷ c) p = let z = over-part m (node o b t) c p in (z .0 .1, (z .0 .0, z .1))
 
 -- the node at a position: the place that `locate` gives has that position, and its part and context make up the tree
 pub record Found (t : Tree) (c : List Frame) (p : ℕ) (s : Place) : Type 0 where
@@ -83,11 +80,6 @@ pub locate-here : (t : Tree) (c : List Frame) (p : ℕ) → p + 1 ≡ size t →
 unfolding locate size
 locate-here (leaf g h) c p e = refl
 locate-here (node o l r) c p e = rw (le-ltb p (size l) (omega (arith, size-positive r)), le-ltb p (size l + size r) (omega arith))
-
--- the position that `locate` was asked for
-pub located-position : (t : Tree) (p : ℕ) → p < size t → position (locate t [] p .part) (locate t [] p .above) ≡ p
-unfolding before
-located-position t p h = omega (arith, found-at t [] p h .place)
 
 pub located-whole : (t : Tree) (p : ℕ) → p < size t → plug (locate t [] p .part) (locate t [] p .above) ≡ t
 unfolding plug

@@ -1,16 +1,18 @@
 -- Laws of the different groups of a tree: which they are, that each stands once and is a group, that what was collected first comes
--- first, and that a list of different numbers that all stand in another list is no longer than it.
+-- first, that they are the groups among its entries, and that a list of different numbers that all stand in another list is no longer
+-- than it.
 use mathlib.Core.Path.{_≡_, refl, sym, ap, subst, _∙_}
 use mathlib.Core.Bool.{Bool, true, false, cond, _||_, true≢false, false≢true}
 use mathlib.Core.List.{List, [], _∷_, _++_, append-assoc, append-nil}
 use Prim.Native.Nat.{ℕ, suc, _+_, _≤_, _<_}
 use native.Mathlib.Omega.{arith}
-use borrow.Author.Tests.{eqb-true, eqb-false, eq-eqb, ne-eqb}
-use lib.Dec.{T, eqb}
+use borrow.Author.Tests.{eqb-true, eqb-false, eq-eqb, ne-eqb, lt-ltb}
+use lib.Dec.{T, eqb, ltb}
 use lib.ListN.{length, length-append, getD, drop, drop-of-length-le}
-use Rattle.tree.specs.Tree.{Tree, leaf, node, isGroup, leaves, isIn, Distinct, withNew, collect, groups, Over}
+use Rattle.tree.specs.Tree.{Operator, union, difference, sign, Tree, leaf, node, isGroup, postfix, leaves, isIn, withNew, collect, groups, Over}
+use Rattle.tree.specs.InnerGroups.{Distinct, leavesIn}
 use Rattle.tree.proofs.PassLaws.{here}
-use Rattle.tree.proofs.TreeLaws.{is-in-append, in-left, in-right, over-leaves, leaves-over, over-implies, or-false, or-right, or-cases}
+use Rattle.tree.proofs.TreeLaws.{group-most, is-in-append, in-left, in-right, over-leaves, leaves-over, over-implies, or-false, or-right, or-cases}
 
 -- ---- membership
 is-in-one : (y x : ℕ) → isIn (y ∷ []) x ≡ eqb x y
@@ -31,12 +33,7 @@ is-in-end xs y x = is-in-append xs (y ∷ []) x ∙ ap (λ (b : Bool). isIn xs x
 
 -- what is in such a list stood there before or is the number added
 pub end-cases : (P : Type 0) (xs : List ℕ) (y x : ℕ) → isIn (xs ++ (y ∷ [])) x ≡ true → (isIn xs x ≡ true → P) → (x ≡ y → P) → P
-end-cases P xs y x e p q = go (isIn xs x) refl (eqb x y) refl (sym (is-in-end xs y x) ∙ e)
-  where
-    go : (a : Bool) → isIn xs x ≡ a → (b : Bool) → eqb x y ≡ b → (a || b) ≡ true → P
-    go true r b s e = p r
-    go false r true s e = q (eqb-true x y s)
-    go false r false s e = absurd (false≢true e)
+end-cases P xs y x e p q = or-cases (isIn xs x) (eqb x y) (sym (is-in-end xs y x) ∙ e) p (λ s. q (eqb-true x y s))
 
 -- in a list with one number more where it is not in it yet
 pub is-in-new : (xs : List ℕ) (y x : ℕ) → isIn (withNew xs y) x ≡ (isIn xs x || eqb x y)
@@ -217,3 +214,30 @@ module _ (xs : List ℕ) (i x : ℕ) where
   pub in-none : length xs ≤ i → isIn (drop i xs) x ≡ false
   unfolding isIn
   in-none h = rw (drop-of-length-le xs h)
+
+-- ---- the groups among entries
+pub leaves-append : (xs ys : List ℕ) → leavesIn (xs ++ ys) ≡ leavesIn xs ++ leavesIn ys
+unfolding leavesIn
+leaves-append [] ys = refl
+leaves-append (x ∷ xs) ys = go (ltb x (sign union)) (leaves-append xs ys)
+  where
+    go : (b : Bool) → leavesIn (xs ++ ys) ≡ leavesIn xs ++ leavesIn ys → cond b (x ∷ leavesIn (xs ++ ys)) (leavesIn (xs ++ ys)) ≡ cond b (x ∷ leavesIn xs) (leavesIn xs) ++ leavesIn ys
+    go true e = ap (λ (zs : List ℕ). x ∷ zs) e
+    go false e = e
+
+pub leaves-one : (g : ℕ) → T (isGroup g) → leavesIn (g ∷ []) ≡ g ∷ []
+unfolding leavesIn
+leaves-one g h = rw (lt-ltb g (sign union) (let z : g < 65001 = omega (arith, group-most g h) in z))
+
+pub leaves-sign : (o : Operator) → leavesIn (sign o ∷ []) ≡ []
+unfolding leavesIn
+leaves-sign union = refl
+leaves-sign difference = refl
+
+-- those of a tree's list are its leaves
+pub leaves-postfix : (t : Tree) → leavesIn (postfix t) ≡ leaves t
+unfolding postfix leaves
+leaves-postfix (leaf g h) = leaves-one g h
+leaves-postfix (node o l r) =
+    leaves-append (postfix l) (postfix r ++ (sign o ∷ []))
+    ∙ rw (leaves-append (postfix r) (sign o ∷ []), leaves-postfix l, leaves-postfix r, leaves-sign o) (ap (λ (zs : List ℕ). leaves l ++ zs) (append-nil (leaves r)))

@@ -9,9 +9,10 @@ use borrow.Author.Tests.{le-ltb, lt-ltb, le-leb, lt-leb, leb-true, ne-eqb}
 use lib.Dec.{T, eqb, leb, ltb}
 use lib.ListN.{length, getD, drop, drop-of-length-le}
 use Rattle.tree.specs.Tree.{Operator, Tree, leaf, node, isGroup, postfix, size, sign, mostNodes}
-use Rattle.tree.specs.Pass.{Entry, group, operator, neither, entryOf, fold, pushed, andThen, pass}
+use Rattle.tree.specs.Pass.{Entry, group, operator, neither, entryOf, pushed, andThen, pass}
+use Rattle.tree.specs.InnerPass.{fold}
 use Rattle.tree.specs.Parse.{alone, waiting, parse, treeOf, isSome}
-use Rattle.tree.specs.Scan.{entryKind}
+use Rattle.tree.specs.InnerScan.{entryKind}
 use Rattle.tree.proofs.TreeLaws.{postfix-length, size-positive}
 use Rattle.tree.proofs.PassLaws.{Writes, entry-sign, entry-leaf, entry-writes, here, pass-whole}
 

@@ -7,13 +7,13 @@ use lib.Dec.{T}
 use lib.ListN.{length, getD, take, drop, length-append, length-reverse}
 use lib.Seq.{take-at, drop-at, getD-at, getD-drop}
 use Rattle.tree.specs.Tree.{Operator, union, difference, Tree, leaf, node, isGroup, sign, postfix, size}
-use Rattle.tree.specs.Context.{left, right, Frame, frame, plug, before, after}
+use Rattle.tree.specs.Context.{left, right, Frame, frame, plug, before}
+use Rattle.tree.proofs.ContextLaws.{after, postfix-plug, found-at}
 use Rattle.tree.specs.Parse.{locate}
-use Rattle.tree.specs.Part.{Part, kindOf, aboveOf}
-use Rattle.tree.specs.Scan.{operatorKind, onward, backward}
+use Rattle.tree.specs.InnerPart.{Part, kindOf, aboveOf}
+use Rattle.tree.specs.InnerScan.{operatorKind, onward, backward}
 use Rattle.tree.specs.declared.Above.the-variants.{Root, Under}
 use Rattle.tree.proofs.TreeLaws.{postfix-length, size-positive}
-use Rattle.tree.proofs.ContextLaws.{postfix-plug, found-at}
 use Rattle.tree.proofs.ParseLaws.{IsTree, tree-length}
 use Rattle.tree.proofs.ScanLaws.{onward-postfix, onward-sign, backward-postfix}
 
@@ -103,10 +103,6 @@ pub part-of-entry : {l : List ℕ} (I : IsTree l) (p : ℕ) → p < length l
 part-of-entry I p h =
     let P = part-of-place (I .tree) p _ (omega (arith, tree-length I)) refl in
     record { whole = I .list ∙ P .whole; begins = P .begins; ends = P .ends }
-
--- the same, by the scan back from the node
-pub part-by-scan : (t : Tree) (p : ℕ) → p < size t → Part (postfix t) (backward 1 (reverse (take (p + 1) (postfix t)))) (p + 1) (locate t [] p .part) (locate t [] p .above)
-part-by-scan t p h = let P = part-of-place t p _ h refl in part-of-place t p _ h (part-begins P)
 
 -- ---- what the scans find, for the innermost frame
 up-left : (o : Operator) (b : Tree) (c : List Frame) → onward 0 (after (frame left o b ∷ c)) ≡ size b

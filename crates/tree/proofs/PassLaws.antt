@@ -12,7 +12,13 @@ use borrow.Author.Tests.{eqb-true}
 use lib.ListN.{length, getD, set, drop, drop-of-length-le}
 use lib.Seq.{drop-cons, getD-set-same, getD-set-other}
 use Rattle.tree.specs.Tree.{Operator, union, difference, Tree, leaf, node, isGroup, postfix, size, sign}
-use Rattle.tree.specs.Pass.{Entry, group, operator, neither, classify, entryOf, fold, pushed, andThen, pass, stacked}
+use Rattle.tree.specs.Pass.{Entry, group, operator, neither, classify, entryOf, pushed, andThen, pass}
+use Rattle.tree.specs.InnerPass.{fold}
+
+-- an array's first k values as a stack, the last of them on top
+unfoldable pub stacked : {A : Type 0} → A → List A → ℕ → List A
+stacked z a zero = []
+stacked z a (suc k) = getD a k z ∷ stacked z a k
 
 -- ---- what a number of a tree's list is
 pub entry-sign : (o : Operator) → entryOf (sign o) ≡ operator o

@@ -10,7 +10,7 @@ use lib.ListN.{length, getD, take, drop, length-reverse, drop-of-length-le}
 use lib.Seq.{take-suc, length-take-le}
 use Rattle.tree.specs.Tree.{Operator, union, difference, Tree, leaf, node, isGroup, sign, postfix, size}
 use Rattle.tree.specs.Pass.{classify, entryOf}
-use Rattle.tree.specs.Scan.{entryKind, isOperator, onward, backward}
+use Rattle.tree.specs.InnerScan.{entryKind, isOperator, onward, backward}
 use Rattle.tree.proofs.TreeLaws.{group-most}
 use Rattle.tree.proofs.PassLaws.{here, entry-sign, entry-leaf}
 

@@ -2,14 +2,14 @@
 use mathlib.Core.Path.{_≡_, refl, sym, ap, ap₂, _∙_}
 use mathlib.Core.Bool.{Bool, true, false, not, _&&_, _||_, false≢true}
 use mathlib.Core.List.{List, [], _∷_, _++_}
-use Prim.Native.Nat.{ℕ, _+_, _≤_, _<_}
+use Prim.Native.Nat.{ℕ, _≤_, _<_}
 use native.Mathlib.Omega.{arith}
 use borrow.Author.Tests.{eq-eqb, eqb-true}
 use lib.Dec.{T, eqb, leb, leb→le}
 use lib.ListN.{length, length-append}
 use Rattle.tree.specs.Tree.{Operator, union, difference, sign, Tree, leaf, node, isGroup, mostGroup, postfix, size, apply, selects, Equivalent, Over, leaves, isIn}
 
--- ---- both halves of a conjunction, and a test that holds
+-- ---- both halves of a conjunction
 pub and-left : (x y : Bool) → T (x && y) → T x
 and-left true y t = tt
 and-left false y t = t
@@ -17,10 +17,6 @@ and-left false y t = t
 pub and-right : (x y : Bool) → T (x && y) → T y
 and-right true y t = t
 and-right false y t = absurd t
-
-pub is-true : (b : Bool) → T b → b ≡ true
-is-true true t = refl
-is-true false t = absurd t
 
 -- a group is below the operators
 pub group-least : (g : ℕ) → T (isGroup g) → 1 ≤ g
@@ -124,13 +120,6 @@ over-leaves t = over-leaves-of t (isIn (leaves t)) (λ g e. e)
 -- and every group among them has the property that all leaves have
 pub leaves-over : (m : ℕ → Bool) (t : Tree) → Over m t → (g : ℕ) → isIn (leaves t) g ≡ true → m g ≡ true
 unfolding Over leaves isIn
-leaves-over m (leaf x h) o g e = go (eqb g x) refl e
-  where
-    go : (b : Bool) → eqb g x ≡ b → (b || false) ≡ true → m g ≡ true
-    go true q e = rw (eqb-true g x q) o
-    go false q e = absurd (false≢true e)
-leaves-over m (node o l r) p g e = go (isIn (leaves l) g) (isIn (leaves r) g) refl refl (sym (is-in-append (leaves l) (leaves r) g) ∙ e) (leaves-over m l (p .0) g) (leaves-over m r (p .1) g)
-  where
-    go : (a b : Bool) → isIn (leaves l) g ≡ a → isIn (leaves r) g ≡ b → (a || b) ≡ true → (isIn (leaves l) g ≡ true → m g ≡ true) → (isIn (leaves r) g ≡ true → m g ≡ true) → m g ≡ true
-    go true b p q e f k = f p
-    go false b p q e f k = k (q ∙ e)
+leaves-over m (leaf x h) o g e = or-cases (eqb g x) false e (λ q. rw (eqb-true g x q) o) (λ q. absurd (false≢true q))
+leaves-over m (node o l r) p g e =
+    or-cases (isIn (leaves l) g) (isIn (leaves r) g) (sym (is-in-append (leaves l) (leaves r) g) ∙ e) (leaves-over m l (p .0) g) (leaves-over m r (p .1) g)

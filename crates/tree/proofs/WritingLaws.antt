@@ -6,7 +6,8 @@ use native.Mathlib.Omega.{arith}
 use native.Mathlib.Numerals.{add-one}
 use lib.ListN.{length, getD, set, take, drop, length-append, length-set}
 use lib.Seq.{sets, sets-eq, take-at, take-suc}
-use Rattle.tree.specs.Writing.{over, Wrote}
+use Rattle.tree.specs.Writing.{over}
+use Rattle.tree.specs.InnerWriting.{Wrote}
 
 pub sets-append : (l vs ws : List ℕ) (i j : ℕ) → i + length vs ≡ j → sets l i (vs ++ ws) ≡ sets (sets l i vs) j ws
 sets-append l [] ws i j e = let z : i ≡ j = omega arith in rw z

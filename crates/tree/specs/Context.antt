@@ -4,7 +4,7 @@ use mathlib.Core.Bool.{Bool}
 use mathlib.Core.List.{List, [], _∷_, _++_}
 use Prim.Native.Nat.{ℕ, _+_, _-_}
 use lib.ListN.{length}
-use Rattle.tree.specs.Tree.{Operator, Tree, node, postfix, size, sign, selects, apply, Over}
+use Rattle.tree.specs.Tree.{Operator, Tree, node, postfix, size, Over}
 
 pub data Side : Type 0 where
   left : Side
@@ -30,19 +30,9 @@ before [] = []
 before (frame left o b ∷ c) = before c
 before (frame right o b ∷ c) = before c ++ postfix b
 
-unfoldable pub after : List Frame → List ℕ
-after [] = []
-after (frame left o b ∷ c) = postfix b ++ (sign o ∷ after c)
-after (frame right o b ∷ c) = sign o ∷ after c
-
 -- "An entry is a node; its position counts from 0": where the node's own entry stands, the last of its part
 abbrev pub position : Tree → List Frame → ℕ
 position t c = length (before c) + size t - 1
-
--- what the whole selects, by what the part selects
-unfoldable pub selectsAbove : (ℕ → Bool) → List Frame → Bool → Bool
-selectsAbove v [] x = x
-selectsAbove v (frame s o b ∷ c) x = selectsAbove v c (sided s (apply o) x (selects v b))
 
 -- every leaf outside the part passes the test m
 unfoldable pub OverAbove : (ℕ → Bool) → List Frame → Type 0

@@ -1,7 +1,10 @@
 pub mod Tree
 pub mod Context
 pub mod Pass
+pub mod InnerPass
 pub mod Parse
-pub mod Part
-pub mod Scan
+pub mod InnerPart
+pub mod InnerScan
 pub mod Writing
+pub mod InnerWriting
+pub mod InnerGroups

@@ -4,10 +4,9 @@ use mathlib.Core.Path.{_≡_, refl, sym, subst}
 use mathlib.Core.Bool.{Bool, true, false, cond}
 use mathlib.Core.List.{List, [], _∷_}
 use mathlib.Core.Option.{Option, some, none}
-use Prim.Native.Nat.{ℕ, zero, suc, _+_}
+use Prim.Native.Nat.{ℕ, _+_}
 use lib.Dec.{T, eqb}
-use lib.ListN.{getD}
-use Rattle.tree.specs.Tree.{Operator, union, difference, Tree, leaf, node, isGroup, size, sign}
+use Rattle.tree.specs.Tree.{Operator, union, difference, isGroup, sign}
 
 -- what a number of a list is
 pub data Entry : Type 0 where
@@ -23,11 +22,6 @@ unfoldable pub entryOf : ℕ → Entry
 entryOf x = classify x (isGroup x) refl
 
 module _ {A : Type 0} (atLeaf : ℕ → (g : ℕ) → T (isGroup g) → A) (atNode : ℕ → Operator → A → A → A) where
-  -- the value of the tree whose first entry is at i
-  unfoldable pub fold : ℕ → Tree → A
-  fold i (leaf g h) = atLeaf i g h
-  fold i (node o l r) = atNode (i + size l + size r) o (fold i l) (fold (i + size l) r)
-
   -- the stack of values after the entry at i, the latest first; none where an operator lacks an operand or the entry is neither
   abbrev pub operated : ℕ → Operator → List A → Option (List A)
   operated i o [] = none
@@ -47,8 +41,3 @@ module _ {A : Type 0} (atLeaf : ℕ → (g : ℕ) → T (isGroup g) → A) (atNo
   unfoldable pub pass : ℕ → List ℕ → List A → Option (List A)
   pass i [] s = some s
   pass i (x ∷ xs) s = andThen (pushed i (entryOf x) s) (λ s. pass (i + 1) xs s)
-
--- an array's first k values as a stack, the last of them on top
-unfoldable pub stacked : {A : Type 0} → A → List A → ℕ → List A
-stacked z a zero = []
-stacked z a (suc k) = getD a k z ∷ stacked z a k

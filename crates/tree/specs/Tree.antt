@@ -6,18 +6,19 @@ use Prim.Native.Nat.{ℕ, _+_}
 use lib.Dec.{T, eqb, leb}
 
 -- "A number from 1 to 9999 is a leaf: that group of lamps."
-abbrev pub leastGroup : ℕ
-leastGroup = 1
-
 abbrev pub mostGroup : ℕ
 mostGroup = 9999
 
 abbrev pub isGroup : ℕ → Bool
-isGroup g = leb leastGroup g && leb g mostGroup
+isGroup g = leb 1 g && leb g mostGroup
 
 -- "A tree holds 1 to 8,191 nodes."
 abbrev pub mostNodes : ℕ
 mostNodes = 8191
+
+-- "at most .. 8 different groups" of a sheet; "17 more than 8 different groups" of gathering; "a table .. of up to eight groups"
+abbrev pub mostGroups : ℕ
+mostGroups = 8
 
 pub data Operator : Type 0 where
   union : Operator
@@ -79,11 +80,6 @@ leaves (node o l r) = leaves l ++ leaves r
 unfoldable pub isIn : List ℕ → ℕ → Bool
 isIn [] x = false
 isIn (y ∷ ys) x = eqb x y || isIn ys x
-
--- no number stands in a list twice
-unfoldable pub Distinct : List ℕ → Type 0
-Distinct [] = Unit {0}
-Distinct (x ∷ xs) = (isIn xs x ≡ false) × Distinct xs
 
 -- a list with one number more at its end, where it is not in it yet
 abbrev pub withNew : List ℕ → ℕ → List ℕ

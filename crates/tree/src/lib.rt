@@ -1,15 +1,15 @@
 // Postfix lists of trees: is a list a tree, where a part begins, and what is above it.
 ghost use mathlib.Core.Path.{_≡_};
-ghost use mathlib.Core.List.{List, reverse};
+ghost use mathlib.Core.List.{List, [], _∷_, reverse};
 ghost use Prim.Native.Nat.{ℕ, _+_, _≤_, _<_};
 ghost use lib.ListN.{length, take, drop};
 ghost use Rattle.tree.specs.Tree.{Tree, isGroup, isIn};
 ghost use Rattle.tree.specs.Context.{Frame};
 ghost use Rattle.tree.specs.Pass.{entryOf};
 ghost use Rattle.tree.specs.Parse.{treeOf, isSome};
-ghost use Rattle.tree.specs.Part.{Part, Located, aboveOf};
-ghost use Rattle.tree.specs.Scan.{entryKind, operatorKind, onward, backward};
-ghost use Rattle.tree.specs.Writing.{Wrote};
+ghost use Rattle.tree.specs.InnerPart.{Part, Located, aboveOf};
+ghost use Rattle.tree.specs.InnerScan.{entryKind, operatorKind, onward, backward};
+ghost use Rattle.tree.specs.InnerWriting.{Wrote};
 
 pub const LEAST_GROUP: u16 = 1;
 
@@ -20,6 +20,9 @@ pub const UNION: u16 = 65001;
 pub const DIFFERENCE: u16 = 65002;
 
 pub const MOST_NODES: usize = 8191;
+
+// The different groups that a sheet's tree may have, and a tree to be gathered.
+pub const MOST_GROUPS: usize = 8;
 
 // Whether a number is a group.
 pub fn is_group(x: u16) -> bool
@@ -200,4 +203,13 @@ pub fn copy(source: &[u16], out: &mut [u16], at: usize) -> usize
         i += 1;
     }
     next
+}
+
+// Writes one number into `out` at index `at`, and returns the index after it.
+pub fn write_one(x: u16, out: &mut [u16], at: usize) -> usize
+    requires { ⌜ at < length (now out) ⌝ }
+    ensures { λ r. ⌜ Wrote (now (out .entry)) at (now (out .exit)) r (x ∷ []) ⌝ }
+{
+    out[at] = x;
+    at + 1
 }

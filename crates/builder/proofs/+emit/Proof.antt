@@ -53,7 +53,7 @@ emit-add-twice : (t : ℕ) → emit-lts.Need-add-twice (calls t) (emit-at t) emi
 emit-add-twice t c = let h = halves t (c .before) in omega (arith, h .lower .small)
 
 emit-plan-requires : (t : ℕ) → emit-lts.Need-plan-requires (calls t) (emit-at t) emit.Post
-emit-plan-requires t c κs = let h = halves t (c .before) in (h .lower .small, h .lower .inside, h .upper .inside, omega (arith, h .one), h .one)
+emit-plan-requires t c κs = let h = halves t (c .before) in (record { small = h .lower .small; first = h .lower .inside; second = h .upper .inside }, (omega (arith, h .one), h .one))
 
 emit-emit-requires : (t : ℕ) → emit-lts.Need-emit-requires (calls t) (emit-at t) emit.Post
 emit-emit-requires t c κs = let h = halves t (c .before .before .before) in let p = c .before .before .before .before .before .before .pre in (omega (arith, p .0, h .falls), (h .lower, omega (arith, p .1 .1, h .nodes)))

@@ -1,8 +1,8 @@
 use mathlib.Core.Path.{_≡_, refl, sym, _∙_}
 use Prim.Native.Nat.{_+_, _*_, _<_}
 use native.Mathlib.Omega.{arith}
-use Rattle.builder.specs.Building.{within}
-use Rattle.table.specs.Table.{rowsOf}
+use Rattle.builder.specs.InnerBuilding.{within}
+use Rattle.table.specs.InnerTable.{rowsOf}
 use Rattle.builder.proofs.EmitLaws.{within-end, within-stop, within-turn, times-less}
 use Rattle.builder.proofs.within.Statement.{statement}
 use Rattle.builder.proofs.within.Tie as tie
@@ -14,7 +14,7 @@ abbrev μ-loop : tie.MeasureT-loop
 μ-loop t base a b step count i₀ j₀ left₀ i j left = left
 
 loop-holds : tie.Need-loop-holds Inv-loop μ-loop
-loop-holds c = (refl, c .pre .1, c .pre .2)
+loop-holds c = (refl, c .pre .first, c .pre .second)
 
 element-copy-out-x : tie.Need-element-copy-out-x Inv-loop μ-loop
 element-copy-out-x c = let l = c .before .loop in omega (arith, times-less (c .before .before .args .step) (l .left) (c .loop-test .taken))
@@ -35,7 +35,7 @@ add-i c =
     let pre = c .before .before .before .before .before .pre in
     let loop = c .before .before .before .before .loop in
     let loop-test = c .before .before .before .loop-test in
-    omega (arith, times-less (args .step) (loop .left) (loop-test .taken), pre .0)
+    omega (arith, times-less (args .step) (loop .left) (loop-test .taken), pre .small)
 
 add-j : tie.Need-add-j Inv-loop μ-loop
 add-j c =
@@ -43,7 +43,7 @@ add-j c =
     let pre = c .before .before .before .before .before .pre in
     let loop = c .before .before .before .before .loop in
     let loop-test = c .before .before .before .loop-test in
-    omega (arith, times-less (args .step) (loop .left) (loop-test .taken), pre .0)
+    omega (arith, times-less (args .step) (loop .left) (loop-test .taken), pre .small)
 
 sub-left : tie.Need-sub-left Inv-loop μ-loop
 sub-left c = omega arith

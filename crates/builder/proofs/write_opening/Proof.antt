@@ -13,8 +13,8 @@ enum-told-2 c = search needs
 returns : tie.Need-returns
 returns c = rw (c .before .enum-told2 .given .1, eq-eqb _ _ (c .if1 .taken)) (wrote-nothing _ _)
 
-put1-requires : tie.Need-put1-requires
-put1-requires c κs = search needs
+write-one-requires : tie.Need-write-one-requires
+write-one-requires c κs = search needs
 
 enum-told-3 : tie.Need-enum-told-3
 enum-told-3 c = search needs
@@ -37,14 +37,14 @@ put3-requires c κs = search needs
 enum-told-4 : tie.Need-enum-told-4
 enum-told-4 c = search needs
 
-put1-requires-2 : tie.Need-put1-requires-2
-put1-requires-2 c κs = search needs
+write-one-requires-2 : tie.Need-write-one-requires-2
+write-one-requires-2 c κs = search needs
 
 enum-told-5 : tie.Need-enum-told-5
 enum-told-5 c = search needs
 
-put1-requires-3 : tie.Need-put1-requires-3
-put1-requires-3 c κs = search needs
+write-one-requires-3 : tie.Need-write-one-requires-3
+write-one-requires-3 c κs = search needs
 
 same-length-2 : tie.Need-same-length-2
 same-length-2 c = search needs
@@ -53,7 +53,7 @@ returns-3 : tie.Need-returns-3
 returns-3 c =
     let enum-told5 = c .before .before .before .before .before .enum-told5 in
     let if3 = c .before .before .before .before .if3 in
-    rw (enum-told5 .given .1, eq-eqb _ _ (if3 .taken)) (c .before .before .put13 .ensures)
+    rw (enum-told5 .given .1, eq-eqb _ _ (if3 .taken)) (c .before .before .write-one3 .ensures)
 
 put3-requires-2 : tie.Need-put3-requires-2
 put3-requires-2 c κs = search needs
@@ -68,7 +68,7 @@ returns-5 : tie.Need-returns-5
 returns-5 c =
     let enum-told2 = c .before .before .before .before .before .enum-told2 in
     let if1 = c .before .before .before .before .if1 in
-    rw (enum-told2 .given .1, ne-eqb _ _ (if1 .left)) (c .before .before .put1 .ensures)
+    rw (enum-told2 .given .1, ne-eqb _ _ (if1 .left)) (c .before .before .write-one .ensures)
 
 same-length-4 : tie.Need-same-length-4
 same-length-4 c = search needs
@@ -85,7 +85,7 @@ same-length-5 c = search needs
 returns-7 : tie.Need-returns-7
 returns-7 c =
     let enum-told4 = c .before .before .before .before .enum-told4 in
-    rw (enum-told4 .given .1) (c .before .before .put12 .ensures)
+    rw (enum-told4 .given .1) (c .before .before .write-one2 .ensures)
 
 same-length-6 : tie.Need-same-length-6
 same-length-6 c = search needs
@@ -103,16 +103,16 @@ write-opening-spec =
     enum-told
     enum-told-2
     returns
-    put1-requires
+    write-one-requires
     enum-told-3
     put2-requires
     same-length
     returns-2
     put3-requires
     enum-told-4
-    put1-requires-2
+    write-one-requires-2
     enum-told-5
-    put1-requires-3
+    write-one-requires-3
     same-length-2
     returns-3
     put3-requires-2

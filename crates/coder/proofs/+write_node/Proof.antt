@@ -41,7 +41,9 @@ calls t = (
 )
 
 write-node-mul-x : (t : ℕ) → write-node-lts.Need-mul-x (calls t) (write-node-at t) write-node.Post
-write-node-mul-x t c = omega (arith, end-inside (c .before .before .pre .1), c .before .before .pre .1 .noted .few)
+write-node-mul-x t c =
+    let W = c .before .before .pre .1 in
+    omega (arith, end-inside W, W .noted .few)
 
 write-node-shared-slice-read-x : (t : ℕ) → write-node-lts.Need-shared-slice-read-x (calls t) (write-node-at t) write-node.Post
 write-node-shared-slice-read-x t c = end-inside (c .before .before .before .pre .1)
@@ -62,22 +64,42 @@ write-node-add-other : (t : ℕ) → write-node-lts.Need-add-other (calls t) (wr
 write-node-add-other t c = let I = inner-node (c .before .before .before .before .before .pre .1) (c .before .if1 .left) in omega arith
 
 write-node-write-node-requires : (t : ℕ) → write-node-lts.Need-write-node-requires (calls t) (write-node-at t) write-node.Post
-write-node-write-node-requires t c κs = let R = ready (c .before .before .before .before .before .before .pre .1) (c .before .before .if1 .left) (c .before .children-of .ensures) in (omega (arith, c .before .before .before .before .before .before .pre .0, R .less-one), R .first-call)
+write-node-write-node-requires t c κs =
+    let pre = c .before .before .before .before .before .before .pre in
+    let R = ready (pre .1) (c .before .before .if1 .left) (c .before .children-of .ensures) in
+    (omega (arith, pre .0, R .less-one), R .first-call)
 
 write-node-write-node-requires-2 : (t : ℕ) → write-node-lts.Need-write-node-requires-2 (calls t) (write-node-at t) write-node.Post
-write-node-write-node-requires-2 t c κs = let R = ready (c .before .before .before .before .before .before .before .before .before .before .pre .1) (c .before .before .before .before .before .before .if1 .left) (c .before .before .before .before .before .children-of .ensures) in (omega (arith, c .before .before .before .before .before .before .before .before .before .before .pre .0, R .less-two), R .second-call _ _ (c .before .before .before .write-node .ensures))
+write-node-write-node-requires-2 t c κs =
+    let pre = c .before .before .before .before .before .before .before .before .before .before .pre in
+    let R = ready (pre .1) (c .before .before .before .before .before .before .if1 .left) (c .before .before .before .before .before .children-of .ensures) in
+    (omega (arith, pre .0, R .less-two), R .second-call _ _ (c .before .before .before .write-node .ensures))
 
 write-node-kind-of-requires : (t : ℕ) → write-node-lts.Need-kind-of-requires (calls t) (write-node-at t) write-node.Post
 write-node-kind-of-requires t c κs = search needs
 
 write-node-put-requires-2 : (t : ℕ) → write-node-lts.Need-put-requires-2 (calls t) (write-node-at t) write-node.Post
-write-node-put-requires-2 t c κs = let R = ready (c .before .before .before .before .before .before .before .before .before .before .before .before .before .before .before .pre .1) (c .before .before .before .before .before .before .before .before .before .before .before .if1 .left) (c .before .before .before .before .before .before .before .before .before .before .children-of .ensures) in R .own-room _ _ _ _ (c .before .before .before .before .before .before .before .before .write-node .ensures) (c .before .before .before .before .write-node2 .ensures)
+write-node-put-requires-2 t c κs =
+    let W = c .before .before .before .before .before .before .before .before .before .before .before .before .before .before .before .pre .1 in
+    let if1 = c .before .before .before .before .before .before .before .before .before .before .before .if1 in
+    let children-of = c .before .before .before .before .before .before .before .before .before .before .children-of in
+    let write-first = c .before .before .before .before .before .before .before .before .write-node in
+    ready W (if1 .left) (children-of .ensures) .own-room _ _ _ _ (write-first .ensures) (c .before .before .before .before .write-node2 .ensures)
 
 write-node-same-length-2 : (t : ℕ) → write-node-lts.Need-same-length-2 (calls t) (write-node-at t) write-node.Post
-write-node-same-length-2 t c = c .before .before .put2 .kept .0 ∙ c .before .before .before .before .before .before .before .write-node2 .kept .1 .1 .1 .1 .1 .0 ∙ c .before .before .before .before .before .before .before .before .before .before .before .write-node .kept .1 .1 .1 .1 .1 .0
+write-node-same-length-2 t c =
+    let write-first = c .before .before .before .before .before .before .before .before .before .before .before .write-node in
+    let write-second = c .before .before .before .before .before .before .before .write-node2 in
+    c .before .before .put2 .kept .0 ∙ write-second .kept .1 .1 .1 .1 .1 .0 ∙ write-first .kept .1 .1 .1 .1 .1 .0
 
 write-node-returns-2 : (t : ℕ) → write-node-lts.Need-returns-2 (calls t) (write-node-at t) write-node.Post
-write-node-returns-2 t c = writes-node (c .before .before .before .before .before .before .before .before .before .before .before .before .before .before .before .before .before .before .pre .1) (c .before .before .before .before .before .before .before .before .before .before .before .before .before .before .if1 .left) (c .before .before .before .before .before .before .before .before .before .before .before .before .before .children-of .ensures) (c .before .before .before .before .before .before .before .before .before .before .before .write-node .ensures) (c .before .before .before .before .before .before .before .write-node2 .ensures) (c .before .before .before .kind-of .ensures) (c .before .before .put2 .ensures)
+write-node-returns-2 t c =
+    let W = c .before .before .before .before .before .before .before .before .before .before .before .before .before .before .before .before .before .before .pre .1 in
+    let if1 = c .before .before .before .before .before .before .before .before .before .before .before .before .before .before .if1 in
+    let children-of = c .before .before .before .before .before .before .before .before .before .before .before .before .before .children-of in
+    let write-first = c .before .before .before .before .before .before .before .before .before .before .before .write-node in
+    let write-second = c .before .before .before .before .before .before .before .write-node2 in
+    writes-node W (if1 .left) (children-of .ensures) (write-first .ensures) (write-second .ensures) (c .before .before .before .kind-of .ensures) (c .before .before .put2 .ensures)
 
 pub +write-node-spec : {M : Type 1} → statement M
 +write-node-spec = close μ-write-node λ t. write-node-lts.spec (calls t)

@@ -1,5 +1,6 @@
 -- The three answers by their laws; the writer is called at the root, whose part is the whole list.
 use mathlib.Core.Path.{refl, sym, _∙_}
+use native.Mathlib.Omega.{arith}
 use Rattle.tree.proofs.ParseLaws.{tree-some}
 use Rattle.coder.proofs.CodingLaws.{root-writable, too-short, not-a-tree, all-written}
 use borrow.Author.Needs.{needs}
@@ -29,7 +30,7 @@ write-node-requires c κs =
     let is-tree = c .before .before .before .before .before .before .before .is-tree in
     let if2 = c .before .before .before .before .before .before .if2 in
     let note-nodes = c .before .before .before .note-nodes in
-    root-writable _ _ _ _ (sym (is-tree .ensures) ∙ if2 .taken) (note-nodes .ensures) (if1 .left)
+    root-writable (sym (is-tree .ensures) ∙ if2 .taken) (note-nodes .ensures) (omega arith)
 
 same-length : tie.Need-same-length
 same-length c = search needs

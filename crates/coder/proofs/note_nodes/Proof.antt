@@ -7,7 +7,7 @@ use borrow.Author.Needs.{needs}
 use denote.Ref.{now}
 use lib.ListN.{length, length-set}
 use Rattle.tree.proofs.ParseLaws.{tree-few}
-use Rattle.coder.specs.Notes.{NotedBelow}
+use Rattle.coder.specs.InnerNotes.{NotedBelow}
 use Rattle.coder.proofs.NoteLaws.{noted-none, noted-leaf, noted-node, operands}
 use Rattle.coder.proofs.note_nodes.Statement.{statement}
 use Rattle.coder.proofs.note_nodes.Tie as tie

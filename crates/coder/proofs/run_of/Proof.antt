@@ -56,7 +56,8 @@ returns-2 c =
     let is-tree = c .before .before .before .before .before .before .before .is-tree in
     let if2 = c .before .before .before .before .before .before .if2 in
     let note-nodes = c .before .before .before .note-nodes in
-    the-run _ _ (sym (is-tree .ensures) ∙ if2 .taken) (note-nodes .ensures) (if1 .left) (c .first-of .ensures)
+    let some-tree = sym (is-tree .ensures) ∙ if2 .taken in
+    the-run _ _ some-tree (note-nodes .ensures) (if1 .left) (c .first-of .ensures) (omega (arith, part-start _ _ some-tree (note-nodes .ensures) (if1 .left)))
 
 returns-3 : tie.Need-returns-3
 returns-3 c = no-such-tree _ _ (sym (c .before .is-tree .ensures) ∙ c .if2 .left)

@@ -1,5 +1,4 @@
-use native.Mathlib.Omega.{arith}
-use Rattle.columns.proofs.BuildLaws.{joined-removed, joined-kept, joined-nested, room-zero, some-as}
+use Rattle.columns.proofs.BuildLaws.{joined-removed, joined-kept, joined-nested}
 use borrow.Author.Needs.{needs}
 use Rattle.columns.proofs.build_columns.Statement.{statement}
 use Rattle.columns.proofs.build_columns.Tie as tie
@@ -35,24 +34,21 @@ returns-2 c =
     let if2 = c .before .before .before .before .if2 in
     joined-kept _ (pre .0) (if1 .left) (if2 .taken) (c .before .before .build-kept .ensures)
 
-varying-requires : tie.Need-varying-requires
-varying-requires c κs = let p = c .before .before .before .before .before .before .before .pre in ((omega (arith, p .0 .low-below), p .0 .low-below, p .0 .divides), p .1 .1)
-
 build-nested-requires : tie.Need-build-nested-requires
 build-nested-requires c κs =
-    let if2 = c .before .before .before .if2 in
-    let p = c .before .before .before .before .before .before .before .before .before .before .pre in (room-zero (p .0), (p .1 .0 .sometimes (if2 .left), some-as _ _ _ _ _ _ (c .before .before .varying .ensures) (p .1 .0 .varying (if2 .left))))
+    let if2 = c .before .if2 in
+    let p = c .before .before .before .before .before .before .before .before .pre in
+    (p .0, (p .1 .0 .sometimes (if2 .left), (p .1 .0 .varying (if2 .left), p .1 .1)))
 
 same-length-3 : tie.Need-same-length-3
 same-length-3 c = search needs
 
 returns-3 : tie.Need-returns-3
 returns-3 c =
-    let pre = c .before .before .before .before .before .before .before .before .before .before .before .before .before .pre in
-    let if1 = c .before .before .before .before .before .before .before .before .if1 in
-    let if2 = c .before .before .before .before .before .before .if2 in
-    let varying = c .before .before .before .before .before .varying in
-    joined-nested _ (pre .0) _ (varying .ensures) (if1 .left) (if2 .left) (c .before .before .build-nested .ensures)
+    let pre = c .before .before .before .before .before .before .before .before .before .before .before .pre in
+    let if1 = c .before .before .before .before .before .before .if1 in
+    let if2 = c .before .before .before .before .if2 in
+    joined-nested _ (pre .0) (if1 .left) (if2 .left) (c .before .before .build-nested .ensures)
 
 pub build-columns-spec : {M : Type 1} → statement M
 build-columns-spec =
@@ -66,7 +62,6 @@ build-columns-spec =
     build-kept-requires
     same-length-2
     returns-2
-    varying-requires
     build-nested-requires
     same-length-3
     returns-3)

@@ -1,8 +1,8 @@
 use mathlib.Core.Path.{_≡_, sym, _∙_}
 use Prim.Native.Nat.{_≤_, _-_}
 use native.Mathlib.Omega.{arith}
-use Rattle.columns.specs.Choosing.{agrees, firstFailing}
-use Rattle.table.specs.Table.{rowsOf}
+use Rattle.columns.specs.InnerChoosing.{agrees, firstFailing}
+use Rattle.table.specs.InnerTable.{rowsOf}
 use Rattle.columns.proofs.BuildLaws.{agrees-inside, failing-turn, failing-stop, failing-end, failing-start}
 use Rattle.columns.proofs.first_failing.Statement.{statement}
 use Rattle.columns.proofs.first_failing.Tie as tie

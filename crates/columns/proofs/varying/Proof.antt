@@ -7,8 +7,8 @@ use native.Mathlib.Nat.{mod-le}
 use native.Mathlib.Omega.{arith}
 use lib.ListN.{length, getD, length-set}
 use lib.Seq.{getD-set-same, getD-set-other}
-use Rattle.columns.specs.Joining.{varies}
-use Rattle.table.specs.Table.{rowsOf}
+use Rattle.columns.specs.InnerJoining.{varies}
+use Rattle.table.specs.InnerTable.{rowsOf}
 use Rattle.columns.proofs.varying.Statement.{statement}
 use Rattle.columns.proofs.varying.Tie as tie
 

@@ -4,7 +4,7 @@ use native.Mathlib.Omega.{arith}
 use lib.ListN.{length, take, drop, length-set}
 use lib.Seq.{length-take-le}
 use Rattle.tree.specs.Tree.{collect}
-use Rattle.gather.specs.Inner.{leavesIn}
+use Rattle.tree.specs.InnerGroups.{leavesIn}
 use Rattle.gather.proofs.LoopLaws.{collect-operator, collect-old, collect-written, collect-many, collected}
 use borrow.Author.Needs.{needs}
 use Rattle.gather.proofs.add_groups.Statement.{statement}

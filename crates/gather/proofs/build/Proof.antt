@@ -1,7 +1,7 @@
 use Rattle.columns.specs.Inner.{ReadyFor}
 use Rattle.gather.specs.Inner.{BuiltFor}
 use mathlib.Core.Path.{subst}
-use Rattle.table.specs.Table.{rowsOf}
+use Rattle.table.specs.InnerTable.{rowsOf}
 use Rattle.columns.proofs.BuildLaws.{room-for}
 use Rattle.gather.proofs.WholeLaws.{not-constant, not-columns}
 use borrow.Author.Needs.{needs}

@@ -1,5 +1,6 @@
-use mathlib.Core.Path.{refl, sym, _∙_}
+use mathlib.Core.Path.{refl, sym, ap, _∙_}
 use borrow.Author.Needs.{needs}
+use Rattle.common.specs.Answer.{refusedWith}
 use Rattle.gather.proofs.gather.Statement.{statement}
 use Rattle.gather.proofs.gather.Tie as tie
 
@@ -19,7 +20,7 @@ returns c =
     record { faulty = λ n. absurd (n (sym (fault-of .ensures) ∙ if1 .taken)); gathers = λ e t q. c .before .before .gather-tree .ensures t q }
 
 returns-2 : tie.Need-returns-2
-returns-2 c = record { faulty = λ n. (c .before .fault-of .ensures, refl); gathers = λ e. absurd (c .if1 .left (c .before .fault-of .ensures ∙ e)) }
+returns-2 c = record { faulty = λ n. (ap refusedWith (c .before .fault-of .ensures), refl); gathers = λ e. absurd (c .if1 .left (c .before .fault-of .ensures ∙ e)) }
 
 pub gather-spec : {M : Type 1} → statement M
 gather-spec =

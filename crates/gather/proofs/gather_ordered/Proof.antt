@@ -1,7 +1,7 @@
 use mathlib.Core.Path.{sym, ap}
 use native.Mathlib.Omega.{arith}
 use lib.ListN.{length}
-use Rattle.table.specs.Table.{table}
+use Rattle.table.specs.InnerTable.{table}
 use Rattle.table.proofs.TableLaws.{length-table}
 use Rattle.gather.proofs.WholeLaws.{marks-length, rest-all, total-most, scanned, room, ready-for, gathers-tree}
 use borrow.Author.Needs.{needs}

@@ -4,7 +4,7 @@ use native.Mathlib.Omega.{arith}
 use lib.ListN.{length, length-set}
 use Rattle.tree.specs.Tree.{Tree, postfix, isIn}
 use Rattle.tree.proofs.PassLaws.{Passing, passing-start}
-use Rattle.gather.specs.Holding.{leafStatus, nodeStatus}
+use Rattle.gather.specs.InnerHolding.{leafStatus, nodeStatus}
 use Rattle.gather.specs.declared.Status.the-variants.{Free}
 use Rattle.table.proofs.EntryLaws.{turn-group, turn-operator, turn-two, turn-end}
 use borrow.Author.Needs.{needs}

@@ -11,13 +11,13 @@ array-share-prefix-entries : tie.Need-array-share-prefix-entries
 array-share-prefix-entries c =
     let pre = c .before .before .before .pre in
     let args = c .before .before .before .args in
-    let p = pre .0 in is-read (args .sheet .now) (p .0) (args .read) (p .1) (p .2) .long
+    let p = pre .0 in is-read (p .1) .long
 
 slice-aggregate-copy : tie.Need-slice-aggregate-copy
 slice-aggregate-copy c =
     let pre = c .before .before .before .before .pre in
     let args = c .before .before .before .before .args in
-    let p = pre .0 in sym (length-take-le (args .read .nodes) (args .read .tree) (is-read (args .sheet .now) (p .0) (args .read) (p .1) (p .2) .long))
+    let p = pre .0 in sym (length-take-le (args .read .nodes) (args .read .tree) (is-read (p .1) .long))
 
 slice-aggregate-copy-2 : tie.Need-slice-aggregate-copy-2
 slice-aggregate-copy-2 c = search needs
@@ -27,7 +27,7 @@ copy-requires c κs =
     let pre = c .before .before .before .before .before .pre in
     let args = c .before .before .before .before .before .args in
     let p = pre .0 in
-    let I = is-read (args .sheet .now) (p .0) (args .read) (p .1) (p .2) in
+    let I = is-read (p .1) in
     omega (arith, length-take-le (args .read .nodes) (args .read .tree) (I .long), I .counted, I .most)
 
 slice-aggregate-lift-all : tie.Need-slice-aggregate-lift-all
@@ -38,9 +38,9 @@ lift-all-requires c κs =
     let args = c .before .before .before .before .before .before .before .before .before .args in
     let copy = c .before .before .before .copy in
     let p = c .before .before .before .before .before .before .before .before .before .pre in
-    let I = is-read (args .sheet .now) (p .0 .0) (args .read) (p .0 .1) (p .0 .2) in
+    let I = is-read (p .0 .1) in
     let s = copy .ensures .same in
-    ((I .has .tree, p .0 .0 .lifts, read-copied I (zeros-length 8191) (copy .ensures), I .asks), omega (arith, s, zeros-length 8191, I .counted, I .most), omega (arith, s, zeros-length 8191), omega (arith, I .few, p .1))
+    (((I .has .tree, read-copied I (zeros-length 8191) (copy .ensures)), omega (arith, s, zeros-length 8191, I .counted, I .most), omega (arith, s, zeros-length 8191)), ((p .0 .0 .lifts, I .asks), omega (arith, I .few, p .1)))
 
 array-share-prefix-tree : tie.Need-array-share-prefix-tree
 array-share-prefix-tree c =
@@ -48,7 +48,7 @@ array-share-prefix-tree c =
     let copy = c .before .before .before .before .before .before .before .before .copy in
     let lift-all = c .before .before .before .before .lift-all in
     let p = c .before .before .before .before .before .before .before .before .before .before .before .before .before .before .pre in
-    let I = is-read (args .sheet .now) (p .0 .0) (args .read) (p .0 .1) (p .0 .2) in
+    let I = is-read (p .0 .1) in
     let L = lift-all .ensures (I .has .tree) (p .0 .0 .lifts) (read-copied I (zeros-length 8191) (copy .ensures)) (I .asks) in
     omega (arith, L .fits, lift-all .kept .1 .1 .1 .0, copy .ensures .same, zeros-length 8191)
 
@@ -58,7 +58,7 @@ slice-aggregate-finish c =
     let copy = c .before .before .before .before .before .before .before .before .before .copy in
     let lift-all = c .before .before .before .before .before .lift-all in
     let p = c .before .before .before .before .before .before .before .before .before .before .before .before .before .before .before .pre in
-    let I = is-read (args .sheet .now) (p .0 .0) (args .read) (p .0 .1) (p .0 .2) in
+    let I = is-read (p .0 .1) in
     let L = lift-all .ensures (I .has .tree) (p .0 .0 .lifts) (read-copied I (zeros-length 8191) (copy .ensures)) (I .asks) in
     sym (length-take-le (lift-all .result .nodes) (lift-all .last .1 .1 .1 .0) (omega (arith, L .fits, lift-all .kept .1 .1 .1 .0, copy .ensures .same, zeros-length 8191)))
 
@@ -66,13 +66,13 @@ array-share-prefix-marks : tie.Need-array-share-prefix-marks
 array-share-prefix-marks c =
     let pre = c .before .before .before .before .before .before .before .before .before .before .before .before .before .before .before .pre in
     let args = c .before .before .before .before .before .before .before .before .before .before .before .before .before .before .before .args in
-    let p = pre .0 in is-read (args .sheet .now) (p .0) (args .read) (p .1) (p .2) .marks-long
+    let p = pre .0 in is-read (p .1) .marks-long
 
 slice-aggregate-finish-2 : tie.Need-slice-aggregate-finish-2
 slice-aggregate-finish-2 c =
     let pre = c .before .before .before .before .before .before .before .before .before .before .before .before .before .before .before .before .pre in
     let args = c .before .before .before .before .before .before .before .before .before .before .before .before .before .before .before .before .args in
-    let p = pre .0 in sym (length-take-le (args .read .marked) (args .read .marks) (is-read (args .sheet .now) (p .0) (args .read) (p .1) (p .2) .marks-long))
+    let p = pre .0 in sym (length-take-le (args .read .marked) (args .read .marks) (is-read (p .1) .marks-long))
 
 finish-requires : tie.Need-finish-requires
 finish-requires c κs =
@@ -80,7 +80,7 @@ finish-requires c κs =
     let copy = c .before .before .before .before .before .before .before .before .before .before .before .copy in
     let lift-all = c .before .before .before .before .before .before .before .lift-all in
     let p = c .before .before .before .before .before .before .before .before .before .before .before .before .before .before .before .before .before .pre in
-    let I = is-read (args .sheet .now) (p .0 .0) (args .read) (p .0 .1) (p .0 .2) in
+    let I = is-read (p .0 .1) in
     let L = lift-all .ensures (I .has .tree) (p .0 .0 .lifts) (read-copied I (zeros-length 8191) (copy .ensures)) (I .asks) in
     ((_, L .holds, read-marks I), omega (arith, read-most I L, L .wrote .same, p .1))
 
@@ -92,7 +92,7 @@ returns c =
     let args = c .before .before .before .before .before .before .before .before .before .before .before .before .before .before .before .before .before .before .before .before .args in
     let copy = c .before .before .before .before .before .before .before .before .before .before .before .before .before .before .copy in
     let lift-all = c .before .before .before .before .before .before .before .before .before .before .lift-all in
-    λ st e f. let I = is-read (args .sheet .now) st (args .read) e f in
+    λ st R. let I = is-read R in
     let L = lift-all .ensures (I .has .tree) (st .lifts) (read-copied I (zeros-length 8191) (copy .ensures)) (I .asks) in
     read-answered I L (c .before .before .finish .ensures _ (L .holds) (read-marks I))
 

@@ -1,6 +1,6 @@
 use native.Mathlib.Omega.{arith}
 use Rattle.key.proofs.PrintingLaws.{no-most}
-use Rattle.key.proofs.AnswerLaws.{keys-short, accepted-read, keys-refused, keys-answered}
+use Rattle.key.proofs.AnswerLaws.{call-short, accepted-read, call-refused, call-answered}
 use borrow.Author.Needs.{needs}
 use Rattle.key.proofs.key.Statement.{statement}
 use Rattle.key.proofs.key.Tie as tie
@@ -8,7 +8,7 @@ use Rattle.key.proofs.key.Tie as tie
 returns : tie.Need-returns
 returns c =
     let args = c .before .before .before .args in
-    keys-short (args .sheet .now) (args .out .now) (c .if1 .taken)
+    call-short (args .sheet .now) (args .out .now) (c .if1 .taken)
 
 read-requires : tie.Need-read-requires
 read-requires c κs = search needs
@@ -38,7 +38,7 @@ returns-2 c =
     let if2 = c .before .before .before .before .before .before .if2 in
     let r = c .before .before .before .before .before .before .before .read in
     let w = c .before .before .put-line .ensures in
-    keys-refused (args .sheet .now) (args .out .now) (c .before .before .put-line .last .1 .1 .0) (c .before .before .put-line .result) (r .result) (r .ensures) (if2 .taken) (if1 .left)
+    call-refused (args .sheet .now) (args .out .now) (c .before .before .put-line .last .1 .1 .0) (c .before .before .put-line .result) (r .result) (r .ensures) (if2 .taken) (if1 .left)
     (omega (arith, w .ends, no-most (r .result .number) (r .result .line) (omega (arith, r .ok)) (omega (arith, r .ok)))) w
 
 answer-sheet-requires : tie.Need-answer-sheet-requires
@@ -57,7 +57,7 @@ returns-3 c =
     let read = c .before .before .before .before .before .read in
     let if2 = c .before .before .before .before .if2 in
     let z = accepted-read (args .sheet .now) (read .result) (read .ensures) (if2 .left) in
-    keys-answered (args .sheet .now) (args .out .now) (c .before .before .answer-sheet .last .1 .1 .0) (c .before .before .answer-sheet .result) (z .0) (z .1) (if1 .left) (c .before .before .answer-sheet .ensures (z .0) (z .1) (z .2))
+    call-answered (z .1) (if1 .left) (c .before .before .answer-sheet .ensures (z .0) (z .1))
 
 pub key-spec : {M : Type 1} → statement M
 key-spec =

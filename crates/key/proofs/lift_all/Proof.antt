@@ -24,7 +24,7 @@ abbrev μ-loop : tie.MeasureT-loop
 loop-holds : tie.Need-loop-holds Inv-loop μ-loop
 loop-holds c =
     let pre = c .before .before .before .pre in
-    let a = c .before .before .before .args in (omega arith, pre .1, pre .2, refl, refl, λ t ls w k. reached-start (a .sheet .now) t ls (a .start) (a .count) (a .tree .now) (a .nodes) (a .out .now) w k)
+    let a = c .before .before .before .args in (omega arith, pre .0 .1, pre .0 .2, refl, refl, λ t ls w k. reached-start (a .sheet .now) t ls (a .start) (a .count) (a .tree .now) (a .nodes) (a .out .now) w k)
 
 line-at-requires : tie.Need-line-at-requires Inv-loop μ-loop
 line-at-requires c κs = search needs
@@ -38,10 +38,10 @@ lift-one-requires c κs =
     let line-at = c .before .before .before .line-at in
     let l = c .before .before .before .before .before .loop in
     let p = c .before .before .before .before .before .before .before .before .before .pre in
-    let R = l .inv .5 (p .0 .0) (p .0 .1) (p .0 .2) (p .0 .3) in
+    let R = l .inv .5 (p .0 .0 .0) (p .1 .0 .0) (p .0 .0 .1) (p .1 .0 .1) in
     let T = reached-turn R (loop-test .taken) in
     let q = c .before .before .lift-numbers .ensures (T .line .position) (T .line .levels) (ap (λ (x : LineAt). x .line) (line-at .ensures) ∙ T .read) in
-    ((R .present, R .holds), l .inv .1, l .inv .2, omega (arith, q .0, T .range .position-most), omega (arith, q .1, T .range .levels-most), omega (arith, R .most, p .3, l .inv .3))
+    (((R .present, R .holds), l .inv .1, l .inv .2), record { near = omega (arith, q .0, T .range .position-most); few = omega (arith, q .1, T .range .levels-most); room = omega (arith, R .most, p .1 .1, l .inv .3) })
 
 add-i : tie.Need-add-i Inv-loop μ-loop
 add-i c = search needs
@@ -57,7 +57,7 @@ loop-again c =
     let lift-one = c .before .before .before .before .lift-one in
     let l = c .before .before .before .before .before .before .before .before .before .before .loop in
     let p = c .before .before .before .before .before .before .before .before .before .before .before .before .before .before .pre in
-    let R = l .inv .5 (p .0 .0) (p .0 .1) (p .0 .2) (p .0 .3) in
+    let R = l .inv .5 (p .0 .0 .0) (p .1 .0 .0) (p .0 .0 .1) (p .1 .0 .1) in
     let L = lift-one .ensures (R .present) (R .holds) in
     let k = lift-one .kept in (
       omega arith,

@@ -2,20 +2,45 @@ use mathlib.Core.Path.{sym}
 use native.Mathlib.Omega.{arith}
 use lib.ListN.{take, replicate}
 use lib.Seq.{length-take-le}
+use Rattle.tree.specs.Tree.{Tree}
+use Rattle.key.specs.Inner.{IsList}
 use Rattle.key.proofs.EncodingLaws.{zeros-length}
-use Rattle.key.proofs.LiftOneLaws.{done-lift, refused-lift, lifted-one-done, lifted-one-refused}
+use Rattle.key.proofs.LiftOneLaws.{DoneLift, RefusedLift, lift-line-room, done-lift, refused-lift, lifted-one-done, lifted-one-refused}
 use borrow.Author.Needs.{needs}
 use Rattle.key.proofs.lift_one.Statement.{statement}
 use Rattle.key.proofs.lift_one.Tie as tie
+
+-- what `lift` did, for any tree t that the entries are
+did : (a : tie.After-lifted) (t : Tree) → IsList (take (a .before .before .before .before .before .before .before .before .args .nodes) (a .before .before .before .before .before .before .before .before .args .tree .now)) t
+    → DoneLift t (record { position = a .before .before .before .before .before .before .before .before .args .position; levels = a .before .before .before .before .before .before .before .before .args .levels }) (a .lifted .given .0 .0) (a .lifted .given .0 .1 .0) (a .lifted .given .0 .1 .1 .0) (a .before .before .before .lift .last .1 .1 .1 .0)
+did a t w =
+    let start = a .before .before .before .before .before .before .before .before in
+    let lift = a .before .before .before .lift in
+    let given = a .lifted .given in
+    done-lift (take (start .args .nodes) (start .args .tree .now)) (replicate 8191 0) (lift .result) (lift .last .1 .1 .1 .0) t _ w (zeros-length 8191) (start .pre .1 .few) (lift .ensures) (given .0 .0) (given .0 .1 .0) (given .0 .1 .1 .0) (given .1)
+
+-- and for the one that `requires` has
+abbrev Here : tie.After-lifted → Type 0
+Here a = DoneLift (a .before .before .before .before .before .before .before .before .pre .0 .0 .0) (record { position = a .before .before .before .before .before .before .before .before .args .position; levels = a .before .before .before .before .before .before .before .before .args .levels }) (a .lifted .given .0 .0) (a .lifted .given .0 .1 .0) (a .lifted .given .0 .1 .1 .0) (a .before .before .before .lift .last .1 .1 .1 .0)
+
+here : (a : tie.After-lifted) → Here a
+here a = let pre = a .before .before .before .before .before .before .before .before .pre in did a (pre .0 .0 .0) (pre .0 .0 .1)
+
+-- the same where it was refused
+refusal : (a : tie.After-lifted2) (t : Tree) → IsList (take (a .before .before .before .before .before .before .before .before .args .nodes) (a .before .before .before .before .before .before .before .before .args .tree .now)) t
+    → RefusedLift t (record { position = a .before .before .before .before .before .before .before .before .args .position; levels = a .before .before .before .before .before .before .before .before .args .levels }) (a .lifted2 .given .0 .0)
+refusal a t w =
+    let start = a .before .before .before .before .before .before .before .before in
+    let lift = a .before .before .before .lift in
+    refused-lift (take (start .args .nodes) (start .args .tree .now)) (replicate 8191 0) (lift .result) (lift .last .1 .1 .1 .0) t _ w (zeros-length 8191) (start .pre .1 .few) (lift .ensures) (a .lifted2 .given .0 .0) (a .lifted2 .given .1)
 
 slice-reshare-prefix-lift : tie.Need-slice-reshare-prefix-lift
 slice-reshare-prefix-lift c = search needs
 
 slice-aggregate-lift : tie.Need-slice-aggregate-lift
 slice-aggregate-lift c =
-    let args = c .before .before .before .args in
-    let pre = c .before .before .before .pre in
-    sym (length-take-le (args .nodes) (args .tree .now) (pre .1))
+    let start = c .before .before .before in
+    sym (length-take-le (start .args .nodes) (start .args .tree .now) (start .pre .0 .1))
 
 slice-aggregate-lift-2 : tie.Need-slice-aggregate-lift-2
 slice-aggregate-lift-2 c = search needs
@@ -27,33 +52,16 @@ enum-known-lifted : tie.Need-enum-known-lifted
 enum-known-lifted c = search needs
 
 array-share-prefix-new : tie.Need-array-share-prefix-new
-array-share-prefix-new c =
-    let lift = c .before .before .before .before .lift in
-    let a = c .before .before .before .before .before .before .before .before .before in
-    let p = a .pre in
-    let f = c .before .lifted .given in
-    done-lift (take (a .args .nodes) (a .args .tree .now)) (replicate 8191 0) (lift .result) (lift .last .1 .1 .1 .0) (p .0 .0) (record { position = a .args .position; levels = a .args .levels }) (p .0 .1) (zeros-length 8191) (p .3) (p .4)
-    (lift .ensures .0) (lift .ensures .1) (f .0 .0) (f .0 .1 .0) (f .0 .1 .1 .0) (f .1) .long
+array-share-prefix-new c = here (c .before) .long
 
 slice-aggregate-copy : tie.Need-slice-aggregate-copy
-slice-aggregate-copy c =
-    let lift = c .before .before .before .before .before .lift in
-    let a = c .before .before .before .before .before .before .before .before .before .before in
-    let p = a .pre in
-    let f = c .before .before .lifted .given in
-    sym (length-take-le (f .0 .0) (lift .last .1 .1 .1 .0) (done-lift (take (a .args .nodes) (a .args .tree .now)) (replicate 8191 0) (lift .result) (lift .last .1 .1 .1 .0) (p .0 .0) (record { position = a .args .position; levels = a .args .levels }) (p .0 .1) (zeros-length 8191) (p .3) (p .4)
-    (lift .ensures .0) (lift .ensures .1) (f .0 .0) (f .0 .1 .0) (f .0 .1 .1 .0) (f .1) .long))
+slice-aggregate-copy c = sym (length-take-le _ _ (here (c .before .before) .long))
 
 copy-requires : tie.Need-copy-requires
 copy-requires c κs =
-    let lift = c .before .before .before .before .before .before .lift in
-    let lifted = c .before .before .before .lifted in
-    let a = c .before .before .before .before .before .before .before .before .before .before .before in
-    let p = a .pre in
-    let f = lifted .given in
-    let d = done-lift (take (a .args .nodes) (a .args .tree .now)) (replicate 8191 0) (lift .result) (lift .last .1 .1 .1 .0) (p .0 .0) (record { position = a .args .position; levels = a .args .levels }) (p .0 .1) (zeros-length 8191) (p .3) (p .4)
-    (lift .ensures .0) (lift .ensures .1) (f .0 .0) (f .0 .1 .0) (f .0 .1 .1 .0) (f .1) in
-    omega (arith, length-take-le (f .0 .0) (lift .last .1 .1 .1 .0) (d .long), d .counted, d .most, p .2)
+    let pre = c .before .before .before .before .before .before .before .before .before .before .before .pre in
+    let d = here (c .before .before .before) in
+    omega (arith, length-take-le (c .before .before .before .lifted .given .0 .0) (c .before .before .before .before .before .before .lift .last .1 .1 .1 .0) (d .long), d .counted, d .most, pre .0 .2)
 
 slice-aggregate-put-line : tie.Need-slice-aggregate-put-line
 slice-aggregate-put-line c = search needs
@@ -63,14 +71,9 @@ slice-aggregate-put-line-2 c = search needs
 
 put-line-requires : tie.Need-put-line-requires
 put-line-requires c κs =
-    let lift = c .before .before .before .before .before .before .before .before .before .before .before .before .lift in
-    let lifted = c .before .before .before .before .before .before .before .before .before .lifted in
-    let a = c .before .before .before .before .before .before .before .before .before .before .before .before .before .before .before .before .before in
-    let p = a .pre in
-    let f = lifted .given in
-    let d = done-lift (take (a .args .nodes) (a .args .tree .now)) (replicate 8191 0) (lift .result) (lift .last .1 .1 .1 .0) (p .0 .0) (record { position = a .args .position; levels = a .args .levels }) (p .0 .1) (zeros-length 8191) (p .3) (p .4)
-    (lift .ensures .0) (lift .ensures .1) (f .0 .0) (f .0 .1 .0) (f .0 .1 .1 .0) (f .1) in
-    omega (arith, d .short, p .5)
+    let d = here (c .before .before .before .before .before .before .before .before .before) in
+    let room = c .before .before .before .before .before .before .before .before .before .before .before .before .before .before .before .before .before .pre .1 .room in
+    lift-line-room _ _ _ _ _ (omega arith) (d .place-small) (d .looks-small) room
 
 enum-known-lifted-2 : tie.Need-enum-known-lifted-2
 enum-known-lifted-2 c = search needs
@@ -86,14 +89,8 @@ slice-aggregate-put-line-4 c = search needs
 
 put-line-requires-2 : tie.Need-put-line-requires-2
 put-line-requires-2 c κs =
-    let lift = c .before .before .before .before .before .before .before .lift in
-    let lifted2 = c .before .before .before .before .lifted2 in
-    let a = c .before .before .before .before .before .before .before .before .before .before .before .before in
-    let p = a .pre in
-    let f = lifted2 .given in
-    let d = refused-lift (take (a .args .nodes) (a .args .tree .now)) (replicate 8191 0) (lift .result) (lift .last .1 .1 .1 .0) (p .0 .0) (record { position = a .args .position; levels = a .args .levels }) (p .0 .1) (zeros-length 8191) (p .3) (p .4)
-    (lift .ensures .0) (lift .ensures .1) (f .0 .0) (f .1) in
-    omega (arith, d .short, p .5)
+    let pre = c .before .before .before .before .before .before .before .before .before .before .before .before .pre in
+    lift-line-room _ _ _ _ _ (refusal (c .before .before .before .before) (pre .0 .0 .0) (pre .0 .0 .1) .small) (omega (arith, pre .1 .near, pre .1 .few)) (omega arith) (pre .1 .room)
 
 same-length : tie.Need-same-length
 same-length c = search needs
@@ -102,15 +99,9 @@ same-length-2 : tie.Need-same-length-2
 same-length-2 c = search needs
 
 returns : tie.Need-returns
-returns c =
-    let lift = c .before .before .before .before .before .before .before .before .before .before .before .before .before .before .before .lift in
-    let lifted = c .before .before .before .before .before .before .before .before .before .before .before .before .lifted in
-    let copy = c .before .before .before .before .before .before .before .before .copy in
-    λ t w. let a = c .before .before .before .before .before .before .before .before .before .before .before .before .before .before .before .before .before .before .before .before in
-    let p = a .pre in
-    let f = lifted .given in
-    lifted-one-done (done-lift (take (a .args .nodes) (a .args .tree .now)) (replicate 8191 0) (lift .result) (lift .last .1 .1 .1 .0) t (record { position = a .args .position; levels = a .args .levels }) w (zeros-length 8191) (p .3) (p .4)
-    (lift .ensures .0) (lift .ensures .1) (f .0 .0) (f .0 .1 .0) (f .0 .1 .1 .0) (f .1)) (p .2) (copy .ensures) (c .before .before .put-line .ensures)
+returns c = λ t w.
+    let pre = c .before .before .before .before .before .before .before .before .before .before .before .before .before .before .before .before .before .before .before .before .pre in
+    lifted-one-done (did (c .before .before .before .before .before .before .before .before .before .before .before .before) t w) (pre .0 .2) (c .before .before .before .before .before .before .before .before .copy .ensures) (c .before .before .put-line .ensures)
 
 same-length-3 : tie.Need-same-length-3
 same-length-3 c = search needs
@@ -119,14 +110,9 @@ same-length-4 : tie.Need-same-length-4
 same-length-4 c = search needs
 
 returns-2 : tie.Need-returns-2
-returns-2 c =
-    let lift = c .before .before .before .before .before .before .before .before .before .before .lift in
-    let lifted2 = c .before .before .before .before .before .before .before .lifted2 in
-    λ t w. let a = c .before .before .before .before .before .before .before .before .before .before .before .before .before .before .before in
-    let p = a .pre in
-    let f = lifted2 .given in
-    lifted-one-refused (refused-lift (take (a .args .nodes) (a .args .tree .now)) (replicate 8191 0) (lift .result) (lift .last .1 .1 .1 .0) t (record { position = a .args .position; levels = a .args .levels }) w (zeros-length 8191) (p .3) (p .4)
-    (lift .ensures .0) (lift .ensures .1) (f .0 .0) (f .1)) w (p .1) (c .before .before .put-line2 .ensures)
+returns-2 c = λ t w.
+    let pre = c .before .before .before .before .before .before .before .before .before .before .before .before .before .before .before .pre in
+    lifted-one-refused (refusal (c .before .before .before .before .before .before .before) t w) w (pre .0 .1) (pre .1 .near) (c .before .before .put-line2 .ensures)
 
 pub lift-one-spec : {M : Type 1} → statement M
 lift-one-spec =

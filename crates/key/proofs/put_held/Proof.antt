@@ -17,20 +17,20 @@ use Rattle.key.proofs.put_held.Statement.{statement}
 use Rattle.key.proofs.put_held.Tie as tie
 
 -- what `gather` did, for any tree u that the list is, and for the one that `requires` has
-done : (a : tie.After-answer) (u : Tree) → IsList (a .before .before .before .before .before .before .before .before .args .tree .now) u → Markable u (a .before .before .before .before .before .before .before .before .args .marks .now)
-    → GatheredTo u (a .before .before .before .before .before .before .before .before .args .marks .now) (replicate 8191 0) (a .before .before .before .gather .last .1 .1 .0) (a .answer .given .0 .0) (a .answer .given .0 .1 .0)
+done : (a : tie.After-verdict) (u : Tree) → IsList (a .before .before .before .before .before .before .before .before .args .tree .now) u → Markable u (a .before .before .before .before .before .before .before .before .args .marks .now)
+    → GatheredTo u (a .before .before .before .before .before .before .before .before .args .marks .now) (replicate 8191 0) (a .before .before .before .gather .last .1 .1 .0) (a .verdict .given .0 .0) (a .verdict .given .0 .1 .0)
 done a u w m =
     let start = a .before .before .before .before .before .before .before .before in
     let gather = a .before .before .before .gather in
-    let given = a .answer .given in
-    gathered-done (start .args .tree .now) (start .args .marks .now) (replicate 8191 0) (gather .last .1 .1 .0) (gather .result) u w m (start .pre .1) (zeros-length 8191)
+    let given = a .verdict .given in
+    gathered-done (start .args .tree .now) (start .args .marks .now) (replicate 8191 0) (gather .last .1 .1 .0) (gather .result) u w m (start .pre .0) (zeros-length 8191)
     (gather .ensures) (given .0 .0) (given .0 .1 .0) (given .1)
 
-abbrev Done : tie.After-answer → Type 0
-Done a = GatheredTo (a .before .before .before .before .before .before .before .before .pre .0 .0) (a .before .before .before .before .before .before .before .before .args .marks .now) (replicate 8191 0) (a .before .before .before .gather .last .1 .1 .0) (a .answer .given .0 .0) (a .answer .given .0 .1 .0)
+abbrev Done : tie.After-verdict → Type 0
+Done a = GatheredTo (a .before .before .before .before .before .before .before .before .pre .1 .0 .0) (a .before .before .before .before .before .before .before .before .args .marks .now) (replicate 8191 0) (a .before .before .before .gather .last .1 .1 .0) (a .verdict .given .0 .0) (a .verdict .given .0 .1 .0)
 
-done-here : (a : tie.After-answer) → Done a
-done-here a = let pre = a .before .before .before .before .before .before .before .before .pre in done a (pre .0 .0) (pre .0 .1) (pre .0 .2)
+done-here : (a : tie.After-verdict) → Done a
+done-here a = let pre = a .before .before .before .before .before .before .before .before .pre in done a (pre .1 .0 .0) (pre .1 .0 .1) (pre .1 .0 .2)
 
 -- the HELD line has room
 line-here : (r : tie.After-run-of) → length (line HELD (0 ∷ r .run-of .result .first ∷ r .run-of .result .count ∷ [])) ≤ heldBytes
@@ -38,14 +38,17 @@ line-here r =
     let D = done-here (r .before .before .before) in
     run-line (D .result) _ _ (D .gathered) (D .most) _ (gathered-list D .list) (r .run-of .result) (r .run-of .ensures)
 
+cast-t13 : tie.Need-cast-t13
+cast-t13 c = search needs
+
 slice-aggregate-gather : tie.Need-slice-aggregate-gather
 slice-aggregate-gather c = search needs
 
 gather-requires : tie.Need-gather-requires
 gather-requires c κs = search needs
 
-enum-known-answer : tie.Need-enum-known-answer
-enum-known-answer c = search needs
+enum-known-verdict : tie.Need-enum-known-verdict
+enum-known-verdict c = search needs
 
 enum-told : tie.Need-enum-told
 enum-told c = search needs
@@ -59,7 +62,7 @@ slice-aggregate-put-line-2 c = search needs
 put-line-requires : tie.Need-put-line-requires
 put-line-requires c κs =
     let pre = c .before .before .before .before .before .before .before .before .before .before .before .pre in
-    omega (arith, never-most, pre .2)
+    omega (arith, never-most, pre .1 .1)
 
 same-length : tie.Need-same-length
 same-length c = search needs
@@ -70,7 +73,7 @@ returns c =
     let args = c .before .before .before .before .before .before .before .before .before .before .before .before .before .before .args in
     let gather = c .before .before .before .before .before .before .before .before .before .gather in
     let enum-told = c .before .before .before .before .before .before .enum-told in
-    λ u w m. finished-never (pre .1) (gathered-never (args .tree .now) (args .marks .now) (replicate 8191 0) (gather .last .1 .1 .0) (gather .result) u w m (pre .1) (zeros-length 8191) (gather .ensures) (enum-told .given .0 .0) (enum-told .given .1)) (c .before .before .put-line .ensures)
+    λ u w m. finished-never (pre .0) (gathered-never (args .tree .now) (args .marks .now) (replicate 8191 0) (gather .last .1 .1 .0) (gather .result) u w m (pre .0) (zeros-length 8191) (gather .ensures) (enum-told .given .0 .0) (enum-told .given .1)) (c .before .before .put-line .ensures)
 
 array-share-prefix-gathered : tie.Need-array-share-prefix-gathered
 array-share-prefix-gathered c = gathered-long (done-here (c .before))
@@ -88,7 +91,7 @@ slice-aggregate-put-line-4 : tie.Need-slice-aggregate-put-line-4
 slice-aggregate-put-line-4 c = search needs
 
 put-line-requires-2 : tie.Need-put-line-requires-2
-put-line-requires-2 c κs = omega (arith, line-here (c .before .before .before), c .before .before .before .before .before .before .before .before .before .before .before .before .before .before .pre .2)
+put-line-requires-2 c κs = omega (arith, line-here (c .before .before .before), c .before .before .before .before .before .before .before .before .before .before .before .before .before .before .pre .1 .1)
 
 array-share-prefix-gathered-2 : tie.Need-array-share-prefix-gathered-2
 array-share-prefix-gathered-2 c = gathered-long (done-here (c .before .before .before .before .before .before .before .before .before))
@@ -100,7 +103,7 @@ put-tree-code-requires : tie.Need-put-tree-code-requires
 put-tree-code-requires c κs =
     let D = done-here (c .before .before .before .before .before .before .before .before .before .before .before) in
     let line = c .before .before .before .before .put-line2 .ensures in
-    ((D .result, gathered-list D), omega (arith, line-here (c .before .before .before .before .before .before .before .before), line .ends, line .same, c .before .before .before .before .before .before .before .before .before .before .before .before .before .before .before .before .before .before .before .pre .2))
+    ((D .result, gathered-list D), omega (arith, line-here (c .before .before .before .before .before .before .before .before), line .ends, line .same, c .before .before .before .before .before .before .before .before .before .before .before .before .before .before .before .before .before .before .before .pre .1 .1))
 
 same-length-2 : tie.Need-same-length-2
 same-length-2 c = search needs
@@ -109,16 +112,17 @@ returns-2 : tie.Need-returns-2
 returns-2 c = λ u w m.
     let D = done (c .before .before .before .before .before .before .before .before .before .before .before .before .before .before) u w m in
     let run-of = c .before .before .before .before .before .before .before .before .before .before .before .run-of in
-    finished-held D (run-of .result) (run-of .ensures) (c .before .before .before .before .before .before .before .before .before .before .before .before .before .before .before .before .before .before .before .before .before .before .pre .1) (c .before .before .before .before .before .before .before .put-line2 .ensures)
+    finished-held D (run-of .result) (run-of .ensures) (c .before .before .before .before .before .before .before .before .before .before .before .before .before .before .before .before .before .before .before .before .before .before .pre .0) (c .before .before .before .before .before .before .before .put-line2 .ensures)
     (c .before .before .put-tree-code .ensures (D .result) (gathered-list D))
 
 pub put-held-spec : {M : Type 1} → statement M
 put-held-spec =
     tie.close
     (tie.spec
+    cast-t13
     slice-aggregate-gather
     gather-requires
-    enum-known-answer
+    enum-known-verdict
     enum-told
     slice-aggregate-put-line
     slice-aggregate-put-line-2

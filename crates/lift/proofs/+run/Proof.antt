@@ -8,10 +8,10 @@ use lib.Seq.{length-take-le}
 use Rattle.tree.specs.Tree.{Tree}
 use Rattle.tree.specs.Context.{Frame}
 use Rattle.tree.proofs.TreeLaws.{size-positive}
-use Rattle.lift.specs.Standing.{Standing}
-use Rattle.lift.specs.Steps.{StepIs}
+use Rattle.lift.specs.InnerStanding.{Standing}
+use Rattle.lift.specs.InnerSteps.{StepIs}
 use Rattle.lift.specs.Lift.{Result}
-use Rattle.lift.specs.Answer.{Answers}
+use Rattle.lift.specs.Answer.{Lifts}
 use Rattle.lift.specs.declared.Stepped.{Stepped}
 use Rattle.lift.specs.declared.Stepped.the-variants as stepped
 use Rattle.lift.proofs.RunLaws.{state-bounds, stuck-is, long-is, next-stands, next-small, next-looks, next-input, goes-on, stops, grows-too-long, ends}
@@ -21,7 +21,7 @@ use borrow.Fn.PlainCycle.{Measures, is, falls, and}
 use Rattle.lift.proofs.run.Reads as run
 use Rattle.lift.proofs.run.Kinds as run-kinds
 use Rattle.lift.proofs.+run.Lts-run as run-lts
-use Rattle.lift.proofs.next_state.Reads as next-state-reads
+use Rattle.moves.proofs.next_state.Reads as next-state-reads
 use Rattle.lift.proofs.step.Reads as step-reads
 use Rattle.tree.proofs.copy.Reads as copy-reads
 use Rattle.lift.proofs.+run.{statement}
@@ -47,13 +47,13 @@ whole t g = length-take-le (g .args .nodes) (g .args .x .now) (omega (arith, g .
 -- what the step answered, where it was done
 step-done : (t : ℕ) (c : run-lts.After-known-told (calls t) (run-at t) run.Post) (a : Tree) (k : List Frame)
     → let g = c .before .before .before .before .before .before .before .before .before .before .before .before .args in
-    let v = c .before .length .given .0 in
+    let v = c .before .new-nodes .given .0 in
     Standing (take (g .nodes) (g .x .now)) (g .node) a k
     → StepIs a k (g .y .now) (stepped.Done (v .0) (v .1 .0) (v .1 .1 .0) (v .1 .1 .1 .0)) (c .before .before .before .before .before .step .last .1 .1 .0)
 step-done t c a k S =
     let g = c .before .before .before .before .before .before .before .before .before .before .before .before .args in
     let r = c .before .before .before .before .before .step in
-    subst (λ (x : Stepped). StepIs a k (g .y .now) x (r .last .1 .1 .0)) (c .before .length .given .1) (r .ensures a k S)
+    subst (λ (x : Stepped). StepIs a k (g .y .now) x (r .last .1 .1 .0)) (c .before .new-nodes .given .1) (r .ensures a k S)
 
 run-slice-reshare-prefix-copy : (t : ℕ) → run-lts.Need-slice-reshare-prefix-copy (calls t) (run-at t) run.Post
 run-slice-reshare-prefix-copy t c = search needs
@@ -74,9 +74,11 @@ run-same-length-2 : (t : ℕ) → run-lts.Need-same-length-2 (calls t) (run-at t
 run-same-length-2 t c = search needs
 
 run-returns : (t : ℕ) → run-lts.Need-returns (calls t) (run-at t) run.Post
-run-returns t c = λ a k S.
-    let g = c .before .before .before .before .before .before .before .before .before .before in
-    ends (g .args .x .now) (g .args .nodes) (g .args .node) a k (g .args .levels) (g .args .looks) _ (g .args .out .now) _ S (omega (arith, g .pre .1 .1 .0)) (omega (arith, g .pre .1 .1)) (c .before .before .before .before .before .before .if1 .taken) (c .before .before .before .copy .ensures)
+run-returns t c = record {
+  lifts = λ a k S.
+      let g = c .before .before .before .before .before .before .before .before .before .before in
+      ends (g .args .x .now) (g .args .nodes) (g .args .node) a k (g .args .levels) (g .args .looks) _ (g .args .out .now) _ S (omega (arith, g .pre .1 .1 .0)) (omega (arith, g .pre .1 .1)) (c .before .before .before .before .before .before .if1 .taken) (c .before .before .before .copy .ensures);
+}
 
 run-slice-reshare-prefix-step : (t : ℕ) → run-lts.Need-slice-reshare-prefix-step (calls t) (run-at t) run.Post
 run-slice-reshare-prefix-step t c = search needs
@@ -93,8 +95,8 @@ run-enum-told t c = search needs
 run-enum-told-2 : (t : ℕ) → run-lts.Need-enum-told-2 (calls t) (run-at t) run.Post
 run-enum-told-2 t c = search needs
 
-run-enum-known-length : (t : ℕ) → run-lts.Need-enum-known-length (calls t) (run-at t) run.Post
-run-enum-known-length t c = search needs
+run-enum-known-new-nodes : (t : ℕ) → run-lts.Need-enum-known-new-nodes (calls t) (run-at t) run.Post
+run-enum-known-new-nodes t c = search needs
 
 run-sub-t25 : (t : ℕ) → run-lts.Need-sub-t25 (calls t) (run-at t) run.Post
 run-sub-t25 t c = let L = c .before .before .before .before .before .before .before .before .before .before .before .before .before .pre .1 .0 in omega (arith, L .2 .part .ends)
@@ -133,7 +135,7 @@ run-run-requires t c κs = let g = c .before .before .before .before .before .be
         (_, _, next-stands (L .2) y Q (c .before .before .before .next-state .result) (c .before .before .before .next-state .ensures)),
         (
           (next-small (L .2) y Q .1, omega (arith, c .before .before .before .before .before .before .before .before .before .before .before .step .kept .1 .1 .0, y)),
-          ((g .pre .1 .1 .0 .1, g .pre .1 .1 .1 .0 .1), (omega (arith, n, g .pre .1 .1 .1 .1 .0), omega (arith, n, m, g .pre .1 .1 .1 .1 .1))),
+          (omega (arith, g .pre .1 .1), (omega (arith, n, g .pre .1 .1 .1 .1 .0), omega (arith, n, m, g .pre .1 .1 .1 .1 .1))),
         ),
       ),
     )
@@ -145,9 +147,11 @@ run-same-length-4 : (t : ℕ) → run-lts.Need-same-length-4 (calls t) (run-at t
 run-same-length-4 t c = search needs
 
 run-returns-2 : (t : ℕ) → run-lts.Need-returns-2 (calls t) (run-at t) run.Post
-run-returns-2 t c = λ a k S.
-    let g = c .before .before .before .before .before .before .before .before .before .before .before .args in
-    stops a k (g .levels) (g .looks) (c .before .before .before .before .before .before .before .if1 .left) (g .out .now) (stuck-is a _ _ (sym (c .enum-told .given .1) ∙ c .before .before .before .before .step .ensures a k S .answers))
+run-returns-2 t c = record {
+  lifts = λ a k S.
+      let g = c .before .before .before .before .before .before .before .before .before .before .before .args in
+      stops a k (g .levels) (g .looks) (c .before .before .before .before .before .before .before .if1 .left) (g .out .now) (stuck-is a _ _ (sym (c .enum-told .given .1) ∙ c .before .before .before .before .step .ensures a k S .answers));
+}
 
 run-same-length-5 : (t : ℕ) → run-lts.Need-same-length-5 (calls t) (run-at t) run.Post
 run-same-length-5 t c = search needs
@@ -156,9 +160,11 @@ run-same-length-6 : (t : ℕ) → run-lts.Need-same-length-6 (calls t) (run-at t
 run-same-length-6 t c = search needs
 
 run-returns-3 : (t : ℕ) → run-lts.Need-returns-3 (calls t) (run-at t) run.Post
-run-returns-3 t c = λ a k S.
-    let g = c .before .before .before .before .before .before .before .before .before .before .before .args in
-    grows-too-long a k (g .levels) (g .looks) (c .before .before .before .before .before .before .before .if1 .left) (g .out .now) (long-is a _ _ (sym (c .enum-told2 .given .1) ∙ c .before .before .before .before .step .ensures a k S .answers))
+run-returns-3 t c = record {
+  lifts = λ a k S.
+      let g = c .before .before .before .before .before .before .before .before .before .before .before .args in
+      grows-too-long a k (g .levels) (g .looks) (c .before .before .before .before .before .before .before .if1 .left) (g .out .now) (long-is a _ _ (sym (c .enum-told2 .given .1) ∙ c .before .before .before .before .step .ensures a k S .answers));
+}
 
 run-same-length-7 : (t : ℕ) → run-lts.Need-same-length-7 (calls t) (run-at t) run.Post
 run-same-length-7 t c = search needs
@@ -170,13 +176,15 @@ run-same-length-9 : (t : ℕ) → run-lts.Need-same-length-9 (calls t) (run-at t
 run-same-length-9 t c = search needs
 
 run-returns-4 : (t : ℕ) → run-lts.Need-returns-4 (calls t) (run-at t) run.Post
-run-returns-4 t c = λ a k S.
-    let g = c .before .before .before .before .before .before .before .before .before .before .before .before .before .before .before .before .before .before .before .before .before .before .before .before .before in
-    let y = g .pre .1 .1 .1 .0 .0 in
-    let Q = step-done t (c .before .before .before .before .before .before .before .before .before .before .before .before .before) a k S in
-    let r = c .before .before .before .before .before .before .run in
-    subst (λ (x : Result). Answers x (g .args .out .now) (r .result) (r .last .1 .1 .1 .1 .1 .1 .0)) (sym (goes-on S y Q (g .args .levels) (g .args .looks) (c .before .before .before .before .before .before .before .before .before .before .before .before .before .before .before .before .before .before .before .before .before .if1 .left)))
-    (r .ensures a _ (next-stands S y Q (c .before .before .before .before .before .before .before .before .before .before .next-state .result) (c .before .before .before .before .before .before .before .before .before .before .next-state .ensures)))
+run-returns-4 t c = record {
+  lifts = λ a k S.
+      let g = c .before .before .before .before .before .before .before .before .before .before .before .before .before .before .before .before .before .before .before .before .before .before .before .before .before in
+      let y = g .pre .1 .1 .1 .0 .0 in
+      let Q = step-done t (c .before .before .before .before .before .before .before .before .before .before .before .before .before) a k S in
+      let r = c .before .before .before .before .before .before .run in
+      subst (λ (x : Result). Lifts x (g .args .out .now) (r .result) (r .last .1 .1 .1 .1 .1 .1 .0)) (sym (goes-on S y Q (g .args .levels) (g .args .looks) (c .before .before .before .before .before .before .before .before .before .before .before .before .before .before .before .before .before .before .before .before .before .if1 .left)))
+      (r .ensures .lifts a _ (next-stands S y Q (c .before .before .before .before .before .before .before .before .before .before .next-state .result) (c .before .before .before .before .before .before .before .before .before .before .next-state .ensures)));
+}
 
 pub +run-spec : {M : Type 1} → statement M
 +run-spec = close μ-run λ t. run-lts.spec (calls t)
@@ -194,7 +202,7 @@ pub +run-spec : {M : Type 1} → statement M
     (run-step-requires t)
     (run-enum-told t)
     (run-enum-told-2 t)
-    (run-enum-known-length t)
+    (run-enum-known-new-nodes t)
     (run-sub-t25 t)
     (run-add-t26 t)
     (run-sub-t27 t)

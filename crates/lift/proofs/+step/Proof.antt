@@ -5,8 +5,8 @@ use mathlib.Core.List.{List}
 use native.Mathlib.Omega.{arith}
 use Rattle.tree.specs.Tree.{Tree}
 use Rattle.tree.specs.Context.{Frame}
-use Rattle.lift.specs.Standing.{Standing}
-use Rattle.lift.specs.Steps.{Planned, UpIs, HereIs, StepIs}
+use Rattle.lift.specs.InnerStanding.{Standing}
+use Rattle.lift.specs.InnerSteps.{Planned, UpIs, HereIs, StepIs}
 use Rattle.lift.specs.declared.Stepped.{Stepped}
 use Rattle.lift.proofs.GrownLaws.{part-range}
 use Rattle.lift.proofs.StepAnswerLaws.{no-step, within, in-table, replaces-here, level-falls, passes-up, small-up}
@@ -17,8 +17,9 @@ use Rattle.lift.proofs.step.Reads as step
 use Rattle.lift.proofs.step.Kinds as step-kinds
 use Rattle.lift.proofs.+step.Lts-step as step-lts
 use Rattle.lift.proofs.passed_on.Reads as passed-on-reads
+use Rattle.lift.proofs.one_look.Reads as one-look-reads
 use Rattle.lift.proofs.plan_step.Reads as plan-step-reads
-use Rattle.lift.proofs.replace_by_move.Reads as replace-by-move-reads
+use Rattle.moves.proofs.replace_by_move.Reads as replace-by-move-reads
 use Rattle.lift.proofs.+step.{statement}
 use Rattle.lift.proofs.+step.Tie.{close}
 
@@ -33,7 +34,7 @@ step-below t = and 2 step-kinds.ps (falls 2 step-kinds.ps _<_ μ-step t) step.Pr
 
 -- what the calls ask and give
 abbrev calls : ℕ → step-lts.Claims
-calls t = (plan-step-reads.Asked, plan-step-reads.Learnt, step-below t, step.Post, passed-on-reads.Asked, passed-on-reads.Learnt, replace-by-move-reads.Asked, replace-by-move-reads.Learnt)
+calls t = (plan-step-reads.Asked, plan-step-reads.Learnt, step-below t, step.Post, passed-on-reads.Asked, passed-on-reads.Learnt, replace-by-move-reads.Asked, replace-by-move-reads.Learnt, one-look-reads.Asked, one-look-reads.Learnt)
 
 -- what the plan says, where it is the parent's step, and where a stretch is replaced
 up-plan : (t : ℕ) (c : step-lts.After-known-told (calls t) (step-at t) step.Post) (a : Tree) (k : List Frame) → let g = c .before .before .before .before .before .before .args in
@@ -84,6 +85,9 @@ step-replace-by-move-requires t c κs = let g = c .before .before .before .befor
     let w = part-range (H .stretch) in
     (within H (part-range (L .2 .part)), ((w .low, w .high), (g .pre .1 .1, in-table H)))
 
+step-one-look-requires : (t : ℕ) → step-lts.Need-one-look-requires (calls t) (step-at t) step.Post
+step-one-look-requires t c κs = search needs
+
 step-returns : (t : ℕ) → step-lts.Need-returns (calls t) (step-at t) step.Post
 step-returns t c = λ a k S.
     let g = c .before .before .before .before .before .args in
@@ -102,7 +106,10 @@ step-same-length-2 : (t : ℕ) → step-lts.Need-same-length-2 (calls t) (step-a
 step-same-length-2 t c = search needs
 
 step-returns-3 : (t : ℕ) → step-lts.Need-returns-3 (calls t) (step-at t) step.Post
-step-returns-3 t c = λ a k S. replaces-here (here-plan t (c .before .before .before .before) a k S) S (c .before .before .replace-by-move .ensures)
+step-returns-3 t c = λ a k S.
+    let g = c .before .before .before .before .before .before .before .before .before .before .before .args in
+    let made = c .before .before .before .replace-by-move in
+    subst (λ (r : Stepped). StepIs a k (g .out .now) r (made .last .1 .1 .1 .1 .1 .1 .1 .0)) (sym (c .one-look .ensures)) (replaces-here (here-plan t (c .before .before .before .before .before) a k S) S (made .ensures))
 
 pub +step-spec : {M : Type 1} → statement M
 +step-spec = close μ-step λ t. step-lts.spec (calls t)
@@ -116,6 +123,7 @@ pub +step-spec : {M : Type 1} → statement M
     (step-passed-on-requires t)
     (step-enum-known-input t)
     (step-replace-by-move-requires t)
+    (step-one-look-requires t)
     (step-returns t)
     (step-same-length t)
     (step-returns-2 t)

@@ -4,10 +4,11 @@ use mathlib.Core.List.{List, _∷_}
 use native.Mathlib.Omega.{arith}
 use Rattle.tree.specs.Tree.{Tree, node}
 use Rattle.tree.specs.Context.{Frame, frame, sided}
-use Rattle.tree.specs.Part.{Part}
-use Rattle.lift.specs.Standing.{StateIs}
+use Rattle.tree.specs.InnerPart.{Part}
+use Rattle.moves.proofs.TableLaws.{kind-small}
+use Rattle.lift.specs.InnerStanding.{StateIs}
 use Rattle.lift.proofs.GrownLaws.{Grown, grow}
-use Rattle.lift.proofs.PlanLaws.{kind-small, is-nil}
+use Rattle.lift.proofs.PlanLaws.{is-nil}
 use borrow.Author.Needs.{needs}
 use Rattle.lift.proofs.first_state.Statement.{statement}
 use Rattle.lift.proofs.first_state.Tie as tie

@@ -1,6 +1,6 @@
 -- `frame_above` meets its contract: it is `above_part` with the stretches put together.
 use mathlib.Core.Path.{sym, ap, _∙_}
-use Rattle.lift.specs.Steps.{framedAs}
+use Rattle.lift.specs.InnerSteps.{framedAs}
 use borrow.Author.Needs.{needs}
 use Rattle.lift.proofs.frame_above.Statement.{statement}
 use Rattle.lift.proofs.frame_above.Tie as tie

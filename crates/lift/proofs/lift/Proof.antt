@@ -4,9 +4,7 @@ use native.Mathlib.Omega.{arith}
 use lib.ListN.{length}
 use Rattle.tree.proofs.TreeLaws.{postfix-length}
 use Rattle.tree.proofs.ParseLaws.{IsTree, the-tree}
-use Rattle.lift.specs.Lift.{Result}
-use Rattle.lift.specs.Answer.{answer, buffer}
-use Rattle.lift.proofs.WholeLaws.{says-11, says-12, says-13, says-14, runs-on, the-part, levels-below}
+use Rattle.lift.proofs.WholeLaws.{says-11, says-12, says-13, says-14, runs-on, the-part, levels-below, refuses, lifts-same}
 use borrow.Author.Needs.{needs}
 use Rattle.lift.proofs.lift.Statement.{statement}
 use Rattle.lift.proofs.lift.Tie as tie
@@ -20,7 +18,7 @@ given c =
 returns : tie.Need-returns
 returns c = let g = c .before .before .before .args in
     let e = says-11 (length (g .out .now)) (g .tree .now) (g .position) (g .levels) (c .if1 .taken) in
-    (sym (ap answer e), sym (ap (λ (x : Result). buffer x (g .out .now)) e))
+    refuses e
 
 is-tree-requires : tie.Need-is-tree-requires
 is-tree-requires c κs = search needs
@@ -30,7 +28,7 @@ returns-2 c =
     let if1 = c .before .before .before .if1 in
     let g = c .before .before .before .before .before .before .args in
     let e = says-13 (length (g .out .now)) (g .tree .now) (g .position) (g .levels) (if1 .left) (given (c .before)) (c .if3 .taken) in
-    (sym (ap answer e), sym (ap (λ (x : Result). buffer x (g .out .now)) e))
+    refuses e
 
 add-to : tie.Need-add-to
 add-to c = search needs
@@ -46,7 +44,7 @@ returns-3 c =
     let q = c .before .before .if3 .left in
     let P = the-part (length (g .out .now)) (g .tree .now) (g .position) (g .levels) (if1 .left) W q in
     let e = says-14 (length (g .out .now)) (g .tree .now) (g .position) (g .levels) (if1 .left) W q (c .before .level-of .result) (c .before .level-of .ensures .0 _ _ _ P) (c .if4 .taken) in
-    (sym (ap answer e), sym (ap (λ (x : Result). buffer x (g .out .now)) e))
+    refuses e
 
 lift-part-requires : tie.Need-lift-part-requires
 lift-part-requires c κs =
@@ -73,13 +71,12 @@ returns-4 c =
     let q = if3 .left in
     let P = the-part (length (g .out .now)) (g .tree .now) (g .position) (g .levels) (if1 .left) W q in
     let e = runs-on (length (g .out .now)) (g .tree .now) (g .position) (g .levels) (if1 .left) W q (level-of .result) (level-of .ensures .0 _ _ _ P) (if4 .left) in
-    let r = c .before .before .lift-part .ensures _ _ _ P in
-    (r .answers ∙ sym (ap answer e), r .leaves ∙ sym (ap (λ (x : Result). buffer x (g .out .now)) e))
+    lifts-same e (c .before .before .lift-part .ensures .lifts _ _ _ P)
 
 returns-5 : tie.Need-returns-5
 returns-5 c = let g = c .before .before .before .before .before .args in
     let e = says-12 (length (g .out .now)) (g .tree .now) (g .position) (g .levels) (c .before .before .if1 .left) (sym (c .before .is-tree .ensures) ∙ c .if2 .left) in
-    (sym (ap answer e), sym (ap (λ (x : Result). buffer x (g .out .now)) e))
+    refuses e
 
 pub lift-spec : {M : Type 1} → statement M
 lift-spec =

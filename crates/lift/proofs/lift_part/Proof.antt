@@ -6,9 +6,9 @@ use native.Mathlib.Omega.{arith}
 use lib.ListN.{length, take}
 use Rattle.tree.specs.Tree.{Tree}
 use Rattle.tree.specs.Context.{Frame}
-use Rattle.tree.specs.Part.{Part}
+use Rattle.tree.specs.InnerPart.{Part}
 use Rattle.tree.proofs.PartLaws.{part-length}
-use Rattle.lift.specs.Standing.{Standing}
+use Rattle.lift.specs.InnerStanding.{Standing}
 use Rattle.lift.proofs.WholeLaws.{stands-first, same-level, level-within}
 use borrow.Author.Needs.{needs}
 use Rattle.lift.proofs.lift_part.Statement.{statement}
@@ -53,7 +53,7 @@ run-requires c κs =
     let before = c .before .before .before .before in
     let g = before .before .before .before .before .before .before in
     let L = g .pre .0 in
-    ((_, _, stands before (L .0) (L .1) (L .2) (L .3)), ((g .pre .1 .0 .0, search needs), ((omega arith, g .pre .1 .0 .1), (g .pre .1 .1, omega (arith, g .pre .1 .1, L .4, level-within (L .3), g .pre .1 .0 .0)))))
+    ((_, _, stands before (L .0) (L .1) (L .2) (L .3)), ((g .pre .1 .0 .0, search needs), ((omega arith, g .pre .1 .0 .1), (omega (arith, g .pre .1 .1), omega (arith, g .pre .1 .1, L .4, level-within (L .3), g .pre .1 .0 .0)))))
 
 same-length : tie.Need-same-length
 same-length c = search needs
@@ -62,7 +62,7 @@ returns : tie.Need-returns
 returns c =
     let before = c .before .before .before .before .before .before .before .before .before in
     let run = c .before .before .before .before .run in
-    λ from a k P. run .ensures a k (stands before from a k P)
+    record { lifts = λ from a k P. run .ensures .lifts a k (stands before from a k P) }
 
 pub lift-part-spec : {M : Type 1} → statement M
 lift-part-spec =

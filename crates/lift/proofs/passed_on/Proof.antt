@@ -1,7 +1,7 @@
 -- `passed_on` meets its contract: by cases on the answer.
 use mathlib.Core.Path.{sym, ap, subst}
 use native.Mathlib.Omega.{arith}
-use Rattle.lift.specs.Steps.{Small, passedAnswer}
+use Rattle.lift.specs.InnerSteps.{Small, passedAnswer}
 use Rattle.lift.specs.declared.Stepped.{Stepped}
 use borrow.Author.Needs.{needs}
 use Rattle.lift.proofs.passed_on.Statement.{statement}

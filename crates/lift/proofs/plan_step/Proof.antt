@@ -5,9 +5,10 @@ use native.Mathlib.Omega.{arith}
 use lib.ListN.{length}
 use Rattle.tree.specs.Tree.{Tree, node}
 use Rattle.tree.specs.Context.{Frame, sided}
-use Rattle.lift.specs.Standing.{Standing}
+use Rattle.moves.proofs.TableLaws.{kind-small}
+use Rattle.lift.specs.InnerStanding.{Standing}
 use Rattle.lift.proofs.GrownLaws.{Grown, grow}
-use Rattle.lift.proofs.PlanLaws.{kind-small, no-parent, no-grandparent, alone-here, no-d-here, t-here, t-with-d-here, up, passes-on, stays-here}
+use Rattle.lift.proofs.PlanLaws.{no-parent, no-grandparent, alone-here, no-d-here, t-here, t-with-d-here, up, passes-on, stays-here}
 use borrow.Author.Needs.{needs}
 use Rattle.lift.proofs.plan_step.Statement.{statement}
 use Rattle.lift.proofs.plan_step.Tie as tie

@@ -1,7 +1,7 @@
 -- `state_of` meets its contract: the constant table is the definition's values in order.
-use Rattle.lift.specs.Moves.{stateOf}
-use Rattle.lift.specs.Standing.{stateNumber}
-use Rattle.lift.proofs.TableLaws.{entry-of-kinds}
+use Rattle.moves.specs.Moves.{stateOf}
+use Rattle.moves.specs.InnerEntries.{stateNumber}
+use Rattle.moves.proofs.TableLaws.{entry-of-kinds}
 use borrow.Author.Needs.{needs}
 use Rattle.lift.proofs.state_of.Statement.{statement}
 use Rattle.lift.proofs.state_of.Tie as tie

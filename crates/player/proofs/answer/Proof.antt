@@ -4,15 +4,15 @@ use mathlib.Core.Path.{_≡_, refl}
 use Prim.Native.Nat.{_-_, _≤_}
 use native.Mathlib.Omega.{arith}
 use lib.ListN.{length, length-set}
-use Rattle.player.specs.Instructions.{answer, instructions}
+use Rattle.player.specs.Instructions.{litLamps, instructions}
 use Rattle.player.specs.Patches.{rig}
-use Rattle.player.specs.Words.{HoldsSet}
-use Rattle.player.proofs.Holding.{holds-more}
+use Rattle.player.specs.InnerWords.{HoldsSet}
+use Rattle.player.proofs.HoldingLaws.{holds-more}
 use Rattle.player.proofs.answer.Statement.{statement}
 use Rattle.player.proofs.answer.Tie as tie
 
 abbrev Inv-loop : tie.InvT-loop
-Inv-loop code patch words₀ i₀ words i = (i ≤ 8) × (length words ≡ 8) × HoldsSet i words (answer (rig patch) (instructions code))
+Inv-loop code patch words₀ i₀ words i = (i ≤ 8) × (length words ≡ 8) × HoldsSet i words (litLamps (rig patch) (instructions code))
 
 abbrev μ-loop : tie.MeasureT-loop
 μ-loop code patch words₀ i₀ words i = 8 - i

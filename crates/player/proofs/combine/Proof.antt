@@ -1,7 +1,7 @@
 -- Each of the two operations on words is the operation on sets of lamps.
 use borrow.Author.Tests.{eq-eqb, ne-eqb}
 use Rattle.player.specs.Instructions.{addKind}
-use Rattle.player.proofs.Packing.{pack-union, pack-difference}
+use Rattle.player.proofs.PackingLaws.{pack-union, pack-difference}
 use Rattle.player.proofs.combine.Statement.{statement}
 use Rattle.player.proofs.combine.Tie as tie
 

@@ -9,10 +9,10 @@ use lib.ListN.{length, getD, drop, length-drop}
 use Rattle.player.specs.Limits.{registerCount, lastGroup}
 use Rattle.player.specs.Instructions.{Rig, Registers, empty, step, run, instruction, instructions}
 use Rattle.player.specs.Playing.{wrongInstruction, wrongCode}
-use Rattle.player.specs.Words.{word, HoldsSets}
-use Rattle.player.proofs.Tests.{or-left, or-right}
-use Rattle.player.proofs.Lists.{code-more, run-more, run-end}
-use Rattle.player.proofs.Holding.{holds-none}
+use Rattle.player.specs.InnerWords.{word, HoldsSets}
+use Rattle.player.proofs.FaultLaws.{or-left, or-right}
+use Rattle.player.proofs.ListLaws.{code-more, run-more, run-end}
+use Rattle.player.proofs.HoldingLaws.{holds-none}
 use Rattle.player.proofs.execute.Statement.{statement}
 use Rattle.player.proofs.execute.Tie as tie
 
@@ -43,7 +43,7 @@ step-requires c κs =
     let q = c .before .numbers-at .ensures in
     let right = or-left (wrongInstruction (getD l (v .at) 0) (getD l (v .at + 1) 0) (getD l (v .at + 2) 0) (getD l (v .at + 3) 0)) (wrongCode (drop (v .at + 4) l))
     (sym (code-more l (v .at) (v .at + 4) refl (omega arith)) ∙ v .inv .1) in
-    (rw (q .0, q .1, q .2, q .3) right, pre .1, v .inv .2)
+    record { right = rw (q .0, q .1, q .2, q .3) right; all-registers = v .inv .2; all-groups = pre .1 }
 
 add-at : tie.Need-add-at Inv-loop μ-loop
 add-at c = search needs

@@ -9,7 +9,7 @@ use lib.Bits.{bitOr}
 use lib.Dec.{eqb}
 use lib.Pow.{pow-lt}
 use Rattle.player.specs.Bytes.{pack}
-use Rattle.player.proofs.Packing.{pack-union, union-off, pack-one}
+use Rattle.player.proofs.PackingLaws.{pack-union, union-off, pack-one}
 use Rattle.player.proofs.light.Statement.{statement}
 use Rattle.player.proofs.light.Tie as tie
 

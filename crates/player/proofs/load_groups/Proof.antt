@@ -9,8 +9,8 @@ use lib.ListN.{length, drop}
 use Rattle.player.specs.Limits.{lastGroup}
 use Rattle.player.specs.Instructions.{Lamps, union, put}
 use Rattle.player.specs.Patches.{rig}
-use Rattle.player.specs.Words.{HoldsSets}
-use Rattle.player.proofs.Holding.{holds-same, holds-put, rig-none, rig-more, rig-other}
+use Rattle.player.specs.InnerWords.{HoldsSets}
+use Rattle.player.proofs.HoldingLaws.{holds-same, holds-put, rig-none, rig-more, rig-other}
 use Rattle.player.proofs.load_groups.Statement.{statement}
 use Rattle.player.proofs.load_groups.Tie as tie
 

@@ -3,7 +3,7 @@ use mathlib.Core.Path.{refl}
 use Prim.Native.Nat.{_+_}
 use Rattle.player.specs.Limits.{lastGroup}
 use Rattle.player.specs.Instructions.{empty}
-use Rattle.player.proofs.Holding.{holds-none}
+use Rattle.player.proofs.HoldingLaws.{holds-none}
 use Rattle.player.proofs.no_lamps.Statement.{statement}
 use Rattle.player.proofs.no_lamps.Tie as tie
 

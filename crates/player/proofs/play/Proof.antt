@@ -3,7 +3,7 @@
 use borrow.Author.Needs.{needs}
 use borrow.Author.Tests.{eq-eqb, ne-eqb, ltb-false}
 use denote.Ref.{now}
-use mathlib.Core.Path.{_≡_, refl, sym, ap, _∙_}
+use mathlib.Core.Path.{_≡_, refl, sym, _∙_}
 use mathlib.Core.Bool.{Bool, true, false, cond}
 use mathlib.Core.List.{List, _++_}
 use Prim.Native.Nat.{ℕ, _≤_}
@@ -12,10 +12,10 @@ use lib.Dec.{eqb, ltb}
 use lib.ListN.{length, drop}
 use Rattle.player.specs.declared.Played.the-variants.{Done, Refused}
 use Rattle.player.specs.Limits.{byteCount}
-use Rattle.player.specs.Instructions.{answer, instructions}
+use Rattle.player.specs.Instructions.{litLamps, instructions}
 use Rattle.player.specs.Patches.{rig}
 use Rattle.player.specs.Bytes.{bytes}
-use Rattle.player.specs.Playing.{wrongLength, wrongCode, wrongPairCount, wrongPatch, fault, Plays}
+use Rattle.player.specs.Playing.{wrongLength, wrongCode, wrongPairCount, wrongPatch, playFault, Plays}
 use Rattle.player.proofs.play.Statement.{statement}
 use Rattle.player.proofs.play.Tie as tie
 
@@ -26,21 +26,21 @@ no-fault false false true d e h = absurd (omega arith)
 no-fault false false false d e h = (refl, refl)
 
 module _ (code patch lamps : List ℕ) where
-  faultless : fault code patch lamps ≡ 0 → (byteCount ≤ length lamps) × (wrongCode code ≡ false)
+  faultless : playFault code patch lamps ≡ 0 → (byteCount ≤ length lamps) × (wrongCode code ≡ false)
   faultless h =
       let z = no-fault (ltb (length lamps) byteCount) (wrongLength (length code)) (wrongCode code) (wrongPairCount (length patch)) (wrongPatch patch) h in
       (ltb-false (length lamps) byteCount (z .0), z .1)
 
-  refused : (number : ℕ) → number ≡ fault code patch lamps → (number ≡ 0 → ⊥) → Plays code patch lamps (Refused number) lamps
+  refused : (number : ℕ) → number ≡ playFault code patch lamps → (number ≡ 0 → ⊥) → Plays code patch lamps (Refused number) lamps
   refused number e n =
-      let z : eqb (fault code patch lamps) 0 ≡ false = rw e at (ne-eqb number 0 n) in
-      record { numbered = e; answered = rw z (ap Refused e); written = rw z }
+      let z : eqb (playFault code patch lamps) 0 ≡ false = rw e at (ne-eqb number 0 n) in
+      record { says = rw (z, e); written = rw z }
 
-  done : (after : List ℕ) → fault code patch lamps ≡ 0 → after ≡ bytes (answer (rig patch) (instructions code)) ++ drop byteCount lamps
+  played : (after : List ℕ) → playFault code patch lamps ≡ 0 → after ≡ bytes (litLamps (rig patch) (instructions code)) ++ drop byteCount lamps
       → Plays code patch lamps Done after
-  done after e h =
-      let z : eqb (fault code patch lamps) 0 ≡ true = eq-eqb _ 0 e in
-      record { numbered = sym e; answered = rw z; written = rw z h }
+  played after e h =
+      let z : eqb (playFault code patch lamps) 0 ≡ true = eq-eqb _ 0 e in
+      record { says = rw z; written = rw z h }
 
 fault-requires : tie.Need-fault-requires
 fault-requires c κs = search needs
@@ -73,8 +73,8 @@ returns-2 c =
     let if1 = c .before .before .before .before .before .if1 in
     let answer-call = c .before .before .before .before .answer in
     let a = c .before .before .before .before .before .before .before .before .before .before .before .args in
-    done (now (a .code)) (now (a .patch)) (now (a .lamps)) _ (sym (fault .ensures) ∙ if1 .left)
-    (c .before .before .write-bytes .ensures (answer (rig (now (a .patch))) (instructions (now (a .code)))) (answer-call .ensures))
+    played (now (a .code)) (now (a .patch)) (now (a .lamps)) _ (sym (fault .ensures) ∙ if1 .left)
+    (c .before .before .write-bytes .ensures (litLamps (rig (now (a .patch))) (instructions (now (a .code)))) (answer-call .ensures))
 
 pub play-spec : {M : Type 1} → statement M
 play-spec =

@@ -4,32 +4,32 @@ use Prim.Native.Nat.{_≤_, _<_}
 use native.Mathlib.Omega.{arith}
 use lib.ListN.{length-set}
 use Rattle.player.specs.Limits.{registerCount, lastGroup}
-use Rattle.player.specs.Words.{combined}
-use Rattle.player.proofs.Tests.{right-target, right-group, right-s, right-t}
-use Rattle.player.proofs.Holding.{holds-put, step-load, step-combined}
+use Rattle.player.specs.InnerWords.{combined}
+use Rattle.player.proofs.FaultLaws.{right-target, right-group, right-s, right-t}
+use Rattle.player.proofs.HoldingLaws.{holds-put, step-load, step-combined}
 use Rattle.player.proofs.step.Statement.{statement}
 use Rattle.player.proofs.step.Tie as tie
 
 target : (c : tie.Start) → c .args .i .target < registerCount
-target c = right-target (c .args .i .kind) (c .args .i .target) (c .args .i .s) (c .args .i .t) (c .pre .0)
+target c = right-target (c .args .i .kind) (c .args .i .target) (c .args .i .s) (c .args .i .t) (c .pre .right)
 
 group : (c : tie.Then1) → c .before .before .before .args .i .s ≤ lastGroup
 group c =
     let args = c .before .before .before .args in
     let pre = c .before .before .before .pre in
-    right-group (args .i .kind) (args .i .target) (args .i .s) (args .i .t) (pre .0) (c .if1 .taken)
+    right-group (args .i .kind) (args .i .target) (args .i .s) (args .i .t) (pre .right) (c .if1 .taken)
 
 from-s : (c : tie.Else1) → c .before .before .before .args .i .s < registerCount
 from-s c =
     let args = c .before .before .before .args in
     let pre = c .before .before .before .pre in
-    right-s (args .i .kind) (args .i .target) (args .i .s) (args .i .t) (pre .0) (c .if1 .left)
+    right-s (args .i .kind) (args .i .target) (args .i .s) (args .i .t) (pre .right) (c .if1 .left)
 
 from-t : (c : tie.Else1) → c .before .before .before .args .i .t < registerCount
 from-t c =
     let args = c .before .before .before .args in
     let pre = c .before .before .before .pre in
-    right-t (args .i .kind) (args .i .target) (args .i .s) (args .i .t) (pre .0) (c .if1 .left)
+    right-t (args .i .kind) (args .i .target) (args .i .s) (args .i .t) (pre .right) (c .if1 .left)
 
 mul-registers : tie.Need-mul-registers
 mul-registers c =
@@ -95,7 +95,7 @@ returns c =
     let a = before .args in
     let i = a .i in
     let h = group (c .before) in (
-      simp length-set (pre .2),
+      simp length-set (pre .all-registers),
       λ first G R groups registers.
           rw (← step-load G R (i .kind) (i .target) (i .s) (i .t) (c .before .if1 .taken))
           (holds-put registerCount first (a .registers .now) R (i .target) _ (G (i .s)) registers (target before) (groups .entry (i .s) (omega arith))),
@@ -108,7 +108,7 @@ returns-2 c =
     let a = before .args in
     let i = a .i in
     let e = c .before .before .before in (
-      simp length-set (pre .2),
+      simp length-set (pre .all-registers),
       λ first G R groups registers.
           rw (← step-combined G R (i .kind) (i .target) (i .s) (i .t) (e .if1 .left))
           (holds-put registerCount first (a .registers .now) R (i .target) (c .combine .result) (combined (i .kind) (R (i .s)) (R (i .t))) registers (target before)

@@ -7,22 +7,22 @@ use native.Mathlib.Omega.{arith}
 use lib.ListN.{length, take, drop, length-set, take-append-drop}
 use Rattle.player.specs.Instructions.{Lamps}
 use Rattle.player.specs.Bytes.{bytesFrom}
-use Rattle.player.specs.Words.{HoldsSet}
-use Rattle.player.proofs.Packing.{byte-written}
+use Rattle.player.specs.InnerWords.{HoldsSet}
+use Rattle.player.proofs.PackingLaws.{byte-written}
 use Rattle.player.proofs.write_bytes.Statement.{statement}
 use Rattle.player.proofs.write_bytes.Tie as tie
 
 abbrev Inv-loop : tie.InvT-loop
 Inv-loop lamps₀ words i₀ lamps i =
-    (i ≤ 64) × (length lamps ≡ length lamps₀)
-    × ((f : Lamps) → HoldsSet 8 words f → lamps ≡ take i lamps₀ ++ (bytesFrom f (8 * i + 1) (64 - i) ++ drop 64 lamps₀))
+    ((f : Lamps) → HoldsSet 8 words f → lamps ≡ take i lamps₀ ++ (bytesFrom f (8 * i + 1) (64 - i) ++ drop 64 lamps₀))
+    × (i ≤ 64) × (length lamps ≡ length lamps₀)
 
 abbrev μ-loop : tie.MeasureT-loop
 μ-loop lamps₀ words i₀ lamps i = i
 
 loop-holds : tie.Need-loop-holds Inv-loop μ-loop
 unfolding bytesFrom
-loop-holds c = (omega arith, refl, λ f held. sym (take-append-drop 64 (c .args .lamps .now)))
+loop-holds c = (λ f held. sym (take-append-drop 64 (c .args .lamps .now)), omega arith, refl)
 
 sub-i : tie.Need-sub-i Inv-loop μ-loop
 sub-i c = search needs
@@ -52,9 +52,9 @@ loop-again : tie.Need-loop-again Inv-loop μ-loop
 loop-again c =
     let old : List ℕ = c .before .before .args .lamps .now in
     let v = c .before .loop in (
+      λ f held. rw (v .inv .0 f held) (byte-written f (c .before .before .args .t1) held old (drop 64 old) (v .i - 1) (v .i) (omega arith) (omega arith) (omega arith)),
       omega arith,
-      simp length-set (v .inv .1),
-      λ f held. rw (v .inv .2 f held) (byte-written f (c .before .before .args .t1) held old (drop 64 old) (v .i - 1) (v .i) (omega arith) (omega arith) (omega arith)),
+      simp length-set (v .inv .2),
     )
 
 same-length : tie.Need-same-length Inv-loop μ-loop
@@ -63,7 +63,7 @@ same-length c = search needs
 returns : tie.Need-returns Inv-loop μ-loop
 returns c f held =
     let z : c .before .loop .i ≡ 0 = omega arith in
-    c .before .loop .inv .2 f held ∙ rw z refl
+    c .before .loop .inv .0 f held ∙ rw z
 
 pub write-bytes-spec : {M : Type 1} → statement M
 write-bytes-spec =

@@ -7,7 +7,7 @@ use Prim.Native.Nat.{ℕ, _+_, _-_, _≤_}
 use native.Mathlib.Omega.{arith}
 use lib.ListN.{length, getD, drop, length-drop}
 use Rattle.player.specs.Playing.{wrongInstruction, wrongCode}
-use Rattle.player.proofs.Lists.{code-hit, code-miss, code-end}
+use Rattle.player.proofs.ListLaws.{code-hit, code-miss, code-end}
 use Rattle.player.proofs.wrong_code.Statement.{statement}
 use Rattle.player.proofs.wrong_code.Tie as tie
 

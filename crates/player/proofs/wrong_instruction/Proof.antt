@@ -8,20 +8,11 @@ use Rattle.player.proofs.wrong_instruction.Tie as tie
 outside-requires : tie.Need-outside-requires
 outside-requires c κs = search needs
 
-outside-requires-2 : tie.Need-outside-requires-2
-outside-requires-2 c κs = search needs
-
 returns : tie.Need-returns
-returns c =
-    let args = c .before .before .before .before .before .args in
-    let if1 = c .before .before .before .if1 in
-    rw (eq-eqb (args .i .kind) loadKind (if1 .taken)) cc
+returns c = rw (eq-eqb _ loadKind (c .before .before .before .if1 .taken)) cc
 
 returns-2 : tie.Need-returns-2
-returns-2 c =
-    let args = c .before .before .before .before .before .before .args in
-    let if1 = c .before .before .before .before .if1 in
-    rw (ne-eqb (args .i .kind) loadKind (if1 .left)) cc
+returns-2 c = rw (ne-eqb _ loadKind (c .before .before .before .before .before .if1 .left))
 
 pub wrong-instruction-spec : {M : Type 1} → statement M
-wrong-instruction-spec = tie.close (tie.spec outside-requires outside-requires-2 returns returns-2)
+wrong-instruction-spec = tie.close (tie.spec outside-requires returns returns-2)

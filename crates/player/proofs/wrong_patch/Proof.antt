@@ -7,7 +7,7 @@ use Prim.Native.Nat.{ℕ, _+_, _-_, _≤_}
 use native.Mathlib.Omega.{arith}
 use lib.ListN.{length, getD, drop, length-drop}
 use Rattle.player.specs.Playing.{wrongPair, wrongPatch}
-use Rattle.player.proofs.Lists.{patch-hit, patch-miss, patch-end}
+use Rattle.player.proofs.ListLaws.{patch-hit, patch-miss, patch-end}
 use Rattle.player.proofs.wrong_patch.Statement.{statement}
 use Rattle.player.proofs.wrong_patch.Tie as tie
 

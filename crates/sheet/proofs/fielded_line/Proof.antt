@@ -1,9 +1,8 @@
 -- `fielded_line`: one field or two, by whether a tab stands in the rest; a third field makes the second no number.
-use lib.ListN.{take, drop}
-use Prim.Native.Nat.{_+_}
 use mathlib.Core.Path.{sym, _∙_}
+use Prim.Native.Nat.{_+_}
 use native.Mathlib.Omega.{arith}
-use lib.ListN.{length-take}
+use lib.ListN.{take, drop, length-take}
 use Rattle.text.specs.Decimal.{decimal}
 use Rattle.text.proofs.PartsLaws.{rest-all}
 use Rattle.sheet.proofs.FormLaws.{fields-one, fields-two}

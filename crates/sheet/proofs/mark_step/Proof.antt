@@ -5,8 +5,8 @@ use mathlib.Core.List.{List}
 use native.Mathlib.Omega.{arith}
 use lib.ListN.{length}
 use lib.Seq.{length-take-le}
-use Rattle.sheet.specs.Reading.{State, faultOf}
-use Rattle.sheet.specs.Holding.{Holds}
+use Rattle.sheet.specs.Reading.{ReadingState, faultOf}
+use Rattle.sheet.specs.InnerHolding.{Holds}
 use Rattle.sheet.specs.declared.Line.the-variants.{Mark}
 use Rattle.sheet.proofs.HoldLaws.{order-first, order-second, fault-mark, stepped-faulty, stepped-mark, mark-room, different-few, marked-few, marks-long}
 use borrow.Author.Needs.{needs}
@@ -14,7 +14,7 @@ use Rattle.sheet.proofs.mark_step.Statement.{statement}
 use Rattle.sheet.proofs.mark_step.Tie as tie
 
 -- after both searches the mark has no fault, and so there is room for it
-no-fault : (c : tie.After-struct-known) (most : ℕ) (st : State) (es : List ℕ)
+no-fault : (c : tie.After-struct-known) (most : ℕ) (st : ReadingState) (es : List ℕ)
     → Holds most st (c .before .before .before .before .before .before .before .before .before .before .before .args .p) es (c .before .before .before .before .before .before .before .before .before .before .before .args .groups .now) (c .before .before .before .before .before .before .before .before .before .before .before .args .marks .now)
     → faultOf most st (Mark (c .before .before .before .before .before .before .before .before .before .before .before .args .g)) ≡ 0
 no-fault c most st es h =
@@ -42,7 +42,7 @@ faulty-requires c κs = search needs
 returns : tie.Need-returns
 returns c =
     let args = c .before .before .before .before .before .args in
-    λ most st after es h. stepped-faulty h (Mark (args .g)) _ _ _ _ _ _ (c .faulty .ensures) (fault-mark h _ ∙ order-first _ _ _ (c .before .before .order-fault .ensures) (c .before .if1 .taken)) (c .before .if1 .taken)
+    λ most after es st r h. stepped-faulty h (Mark (args .g)) _ _ _ _ _ _ (c .faulty .ensures) (fault-mark h _ ∙ order-first _ _ _ (c .before .before .order-fault .ensures) (c .before .if1 .taken)) (c .before .if1 .taken)
 
 slice-aggregate-is-in : tie.Need-slice-aggregate-is-in
 slice-aggregate-is-in c =
@@ -78,7 +78,7 @@ returns-2 c =
     let if1 = c .before .before .before .before .before .before .before .if1 in
     let is-in = c .before .before .before .before .before .is-in in
     let if2 = c .before .before .before .before .if2 in
-    λ most st after es h. let i = sym (is-in .ensures) ∙ if2 .taken in let j = sym (c .before .before .is-in2 .ensures) ∙ c .before .if3 .taken in
+    λ most after es st r h. let i = sym (is-in .ensures) ∙ if2 .taken in let j = sym (c .before .before .is-in2 .ensures) ∙ c .before .if3 .taken in
     stepped-faulty h (Mark (args .g)) _ _ _ _ _ _ (c .faulty2 .ensures) (fault-mark h _ ∙ (order-second _ _ _ (order-fault .ensures) (if1 .left) ∙ rw (i, j))) (λ z. omega arith)
 
 add-q : tie.Need-add-q
@@ -95,7 +95,7 @@ mul-marks c =
     omega (arith, room c, marks-long (pre .1 .2 .1))
 
 slice-write-marks : tie.Need-slice-write-marks
-slice-write-marks c = room c
+slice-write-marks c = omega (arith, room c)
 
 same-length-2 : tie.Need-same-length-2
 same-length-2 c = search needs
@@ -103,7 +103,7 @@ same-length-2 c = search needs
 returns-3 : tie.Need-returns-3
 returns-3 c =
     let args = c .before .before .before .before .before .before .before .before .before .before .before .args in
-    λ most st after es h. stepped-mark h (args .g) after (no-fault c most st es h)
+    λ most after es st r h. stepped-mark h (args .g) after (no-fault c most st es h)
 
 faulty-requires-3 : tie.Need-faulty-requires-3
 faulty-requires-3 c κs = search needs
@@ -113,7 +113,7 @@ returns-4 c =
     let args = c .before .before .before .before .before .before .before .before .args in
     let order-fault = c .before .before .before .before .before .order-fault in
     let if1 = c .before .before .before .before .if1 in
-    λ most st after es h. let i = sym (c .before .before .is-in .ensures) ∙ c .before .if2 .left in
+    λ most after es st r h. let i = sym (c .before .before .is-in .ensures) ∙ c .before .if2 .left in
     stepped-faulty h (Mark (args .g)) _ _ _ _ _ _ (c .faulty3 .ensures) (fault-mark h _ ∙ (order-second _ _ _ (order-fault .ensures) (if1 .left) ∙ rw i)) (λ z. omega arith)
 
 pub mark-step-spec : {M : Type 1} → statement M

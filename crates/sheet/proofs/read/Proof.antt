@@ -1,7 +1,7 @@
 -- `read`: the outcome as an answer.
 use mathlib.Core.Path.{_∙_}
 use Rattle.sheet.specs.Reading.{mostSheetNodes, reading}
-use Rattle.sheet.proofs.RunLaws.{gives-refused, gives-accepted}
+use Rattle.sheet.proofs.LoopLaws.{gives-refused, gives-accepted}
 use borrow.Author.Needs.{needs}
 use Rattle.sheet.proofs.read.Statement.{statement}
 use Rattle.sheet.proofs.read.Tie as tie

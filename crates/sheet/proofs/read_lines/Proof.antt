@@ -4,11 +4,11 @@ use Prim.Native.Nat.{_≤_, _-_}
 use native.Mathlib.Omega.{arith}
 use lib.ListN.{length}
 use Rattle.sheet.specs.Reading.{mostBytes}
-use Rattle.sheet.specs.Form.{lineAt}
-use Rattle.sheet.specs.Holding.{Stepped}
+use Rattle.sheet.specs.InnerLines.{lineAt}
+use Rattle.sheet.specs.InnerHolding.{AfterLine}
 use Rattle.sheet.proofs.LineAtLaws.{line-at-range, OneLine, one-line}
 use Rattle.sheet.proofs.HoldLaws.{tree-long, marks-long, groups-long, holds-gives}
-use Rattle.sheet.proofs.RunLaws.{Running, running-blank, read-long, held-own, stepped-own, running-refused, running-next, running-accepted, running-open}
+use Rattle.sheet.proofs.LoopLaws.{Running, running-nothing-read, read-long, held-own, stepped-own, running-refused, running-next, running-accepted, running-open}
 use Rattle.sheet.proofs.read_lines.Statement.{statement}
 use Rattle.sheet.proofs.read_lines.Tie as tie
 
@@ -29,7 +29,7 @@ one-read c =
 
 stepped : (c : tie.After-step Inv-loop μ-loop)
     → let s = c .before .before .before .before .before .before .before .before .before .before .before .args .sheet .now in let at = c .before .before .before .before .before .before .loop .at in
-    Stepped (length (c .before .before .before .before .before .before .before .before .before .before .before .args .tree .now)) (c .before .before .before .before .before .before .loop .inv .3 .st) (lineAt s at .line) (lineAt s at .next) (c .before .before .before .before .before .before .loop .p) (c .step .result)
+    AfterLine (length (c .before .before .before .before .before .before .before .before .before .before .before .args .tree .now)) (c .before .before .before .before .before .before .loop .inv .3 .st) (lineAt s at .line) (lineAt s at .next) (c .before .before .before .before .before .before .loop .p) (c .step .result)
     (c .step .last .1 .1 .1 .0) (c .step .last .1 .1 .1 .1 .0) (c .step .last .1 .1 .1 .1 .1 .0)
 stepped c =
     let args = c .before .before .before .before .before .before .before .before .before .before .before .args in
@@ -48,12 +48,12 @@ marks-were c =
     marks-long (loop .inv .3 .held) ∙ sym (ap length (pre .1))
 
 returns : tie.Need-returns Inv-loop μ-loop
-returns c = rw (read-long _ _ (c .if1 .taken)) (refl, refl, λ z. omega arith)
+returns c = rw (read-long _ _ (c .if1 .taken)) (record { fault = refl; line-is = refl; some = λ z. omega arith })
 
 loop-holds : tie.Need-loop-holds Inv-loop μ-loop
 loop-holds c =
     let pre = c .before .before .before .before .pre in
-    (c .if1 .left, omega arith, omega arith, running-blank _ _ _ _ (pre .0) (pre .1) (c .if1 .left))
+    (c .if1 .left, omega arith, omega arith, running-nothing-read _ _ _ _ (pre .0) (pre .1) (c .if1 .left))
 
 line-at-requires : tie.Need-line-at-requires Inv-loop μ-loop
 line-at-requires c κs = tt
@@ -86,7 +86,7 @@ returns-2 c =
     let loop = c .before .before .before .before .before .before .before .before .before .before .before .before .before .loop in
     let loop-test = c .before .before .before .before .before .before .before .before .before .before .before .before .loop-test in
     let before = c .before .before .before .before .before .before .before in
-    rw (running-refused (loop .inv .3) (loop-test .taken) (stepped before) (c .if2 .taken)) (refl, refl, c .if2 .taken)
+    rw (running-refused (loop .inv .3) (loop-test .taken) (stepped before) (c .if2 .taken)) (record { fault = refl; line-is = refl; some = c .if2 .taken })
 
 loop-less : tie.Need-loop-less Inv-loop μ-loop
 loop-less c =
@@ -142,7 +142,7 @@ returns-4 : tie.Need-returns-4 Inv-loop μ-loop
 returns-4 c =
     let loop = c .before .before .before .before .loop in
     let loop-test = c .before .before .before .loop-test in
-    let R = loop .inv .3 in rw (running-open R (loop-test .left) (c .before .if3 .left)) (c .faulty .ensures .0, c .faulty .ensures .1, λ z. omega arith)
+    let R = loop .inv .3 in rw (running-open R (loop-test .left) (c .before .if3 .left)) (record { fault = c .faulty .ensures .0; line-is = c .faulty .ensures .1; some = λ z. omega arith })
 
 pub read-lines-spec : {M : Type 1} → statement M
 read-lines-spec =

@@ -7,7 +7,7 @@ use lib.ListN.{length, getD, length-set}
 use Rattle.tree.specs.Tree.{Operator, Tree, postfix, apply}
 use Rattle.tree.proofs.TreeLaws.{group-most}
 use Rattle.tree.proofs.PassLaws.{Passing, passing-start}
-use Rattle.table.specs.Table.{filling}
+use Rattle.table.specs.InnerTable.{filling}
 use Rattle.table.proofs.EntryLaws.{leafValue, nodeValue, fold-selects, operator-of, turn-leaf, turn-group, turn-operator, turn-two, turn-end}
 use borrow.Author.Needs.{needs}
 use Rattle.table.proofs.eval.Statement.{statement}

@@ -2,7 +2,7 @@ use mathlib.Core.Path.{_≡_, refl, sym, _∙_}
 use Prim.Native.Nat.{_≤_, _-_}
 use native.Mathlib.Omega.{arith}
 use lib.ListN.{length, drop}
-use Rattle.table.specs.Table.{filling}
+use Rattle.table.specs.InnerTable.{filling}
 use Rattle.table.proofs.TableLaws.{filling-here, filling-on, filling-none}
 use Rattle.table.proofs.in_row.Statement.{statement}
 use Rattle.table.proofs.in_row.Tie as tie

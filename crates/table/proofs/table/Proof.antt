@@ -6,7 +6,7 @@ use borrow.Author.Count.{below-more}
 use lib.ListN.{length, getD, length-set}
 use lib.Seq.{getD-set-same, getD-set-other, ext-getD}
 use Rattle.tree.specs.Tree.{Tree, postfix}
-use Rattle.table.specs.Table.{valueAt, table}
+use Rattle.table.specs.InnerTable.{valueAt, table}
 use Rattle.table.proofs.TableLaws.{length-table, table-at}
 use Rattle.table.proofs.table.Statement.{statement}
 use Rattle.table.proofs.table.Tie as tie

@@ -4,7 +4,7 @@ use Prim.Native.Nat.{_≤_, _+_, _-_}
 use native.Mathlib.Omega.{arith}
 use borrow.Author.Needs.{needs}
 use lib.ListN.{length, drop}
-use Rattle.text.specs.Parts.{ahead}
+use Rattle.text.specs.Inner.{ahead}
 use Rattle.text.proofs.PartsLaws.{ahead-here, ahead-next, ahead-end}
 use Rattle.text.proofs.find.Statement.{statement}
 use Rattle.text.proofs.find.Tie as tie

@@ -5,7 +5,8 @@ use Prim.Native.Nat.{_≤_, _-_}
 use native.Mathlib.Omega.{arith}
 use borrow.Author.Needs.{needs}
 use lib.ListN.{length, drop}
-use Rattle.text.specs.Decimal.{decimal, capped}
+use Rattle.text.specs.Decimal.{decimal}
+use Rattle.text.specs.Inner.{capped}
 use Rattle.text.proofs.DecimalLaws.{after, number-start, number-empty, number-leading, lead-other, lead-short, after-next, after-end}
 use Rattle.text.proofs.number.Statement.{statement}
 use Rattle.text.proofs.number.Tie as tie

@@ -5,9 +5,9 @@ use native.Mathlib.Omega.{arith}
 use borrow.Author.Needs.{needs}
 use lib.ListN.{length, take}
 use lib.Seq.{take-all}
-use Rattle.tree.specs.Writing.{Wrote}
+use Rattle.tree.specs.InnerWriting.{Wrote}
 use Rattle.tree.proofs.WritingLaws.{wrote-nothing, wrote-then, wrote-as}
-use Rattle.text.specs.Line.{fieldsAfter}
+use Rattle.text.specs.Inner.{fieldsAfter}
 use Rattle.text.proofs.LineLaws.{fields-none, fields-next, fields-room}
 use Rattle.text.proofs.put_fields.Statement.{statement}
 use Rattle.text.proofs.put_fields.Tie as tie

@@ -5,7 +5,7 @@ use Prim.Native.Nat.{_+_, _≤_, _<_}
 use native.Mathlib.Omega.{arith}
 use borrow.Author.Needs.{needs}
 use lib.ListN.{length, take}
-use Rattle.tree.specs.Scan.{backward}
+use Rattle.tree.specs.InnerScan.{backward}
 use Rattle.tree.proofs.ScanLaws.{backward-operator, backward-leaf, backward-stop, backward-none}
 use Rattle.tree.proofs.scan_backward.Statement.{statement}
 use Rattle.tree.proofs.scan_backward.Tie as tie

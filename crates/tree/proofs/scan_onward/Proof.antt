@@ -4,13 +4,13 @@ use Prim.Native.Nat.{_+_, _-_, _≤_}
 use native.Mathlib.Omega.{arith}
 use borrow.Author.Needs.{needs}
 use lib.ListN.{length, drop}
-use Rattle.tree.specs.Scan.{onward}
+use Rattle.tree.specs.InnerScan.{onward}
 use Rattle.tree.proofs.ScanLaws.{onward-end, onward-stop, onward-operator, onward-leaf}
 use Rattle.tree.proofs.scan_onward.Statement.{statement}
 use Rattle.tree.proofs.scan_onward.Tie as tie
 
 abbrev Inv-loop : tie.InvT-loop
-Inv-loop list to operands₀ i₀ operands i = (i ≤ length list) × (operands ≤ i) × (i + onward operands (drop i list) ≡ to + onward 0 (drop to list))
+Inv-loop list to operands₀ i₀ operands i = (i ≤ length list) × (operands ≤ i + 1) × (i + onward operands (drop i list) ≡ to + onward 0 (drop to list))
 
 abbrev μ-loop : tie.MeasureT-loop
 μ-loop list to operands₀ i₀ operands i = length list - i

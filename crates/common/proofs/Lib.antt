@@ -1,0 +1,2 @@
+-- Laws about lists of numbers, for every crate.
+pub mod ListLaws

@@ -1,0 +1,2 @@
+-- What a call of the player says in one number.
+mod PlayingLaws

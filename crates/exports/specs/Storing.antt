@@ -1,0 +1,47 @@
+-- What the calls for other languages leave in the memory lent to them: what the call of 01 leaves, and its answer as numbers.
+use mathlib.Core.Path.{_≡_}
+use mathlib.Core.List.{List, [], _∷_}
+use Prim.Native.Nat.{ℕ, _%_}
+use lib.ListN.{length, getD}
+use lib.Seq.{sets}
+use Rattle.common.specs.Answer.{Answer, done, refusedWith, answerBy}
+use Rattle.tree.specs.Parse.{treeOf}
+use Rattle.lift.specs.Lift.{liftOf}
+use Rattle.lift.specs.Answer.{resultSays, liftBuffer}
+use Rattle.gather.specs.Answer.{gatheringSays, Gathers}
+use Rattle.gather.specs.declared.Gathering.{Gathering}
+use Rattle.coder.specs.Coding.{encodeFault, codeOfList, bufferAfter}
+use Rattle.player.specs.Playing.{playFault, bytesAfter}
+
+-- the number, and behind it the values
+abbrev pub answerNumbers : Answer → List ℕ
+answerNumbers (done values) = 0 ∷ values
+answerNumbers (refusedWith number) = number ∷ []
+
+-- a number of an answer as 32 bits: the first is 01's number (0 for done), then come its values; 0 where it has no more
+abbrev pub stored32 : List ℕ → ℕ → ℕ
+stored32 numbers i = getD numbers i 0 % 4294967296
+
+-- the array with an answer at its front, as far as it has places: four numbers, and behind them what stood there
+abbrev pub withAnswer : Answer → List ℕ → List ℕ
+withAnswer a array =
+    sets array 0 (stored32 (answerNumbers a) 0 ∷ stored32 (answerNumbers a) 1 ∷ stored32 (answerNumbers a) 2 ∷ stored32 (answerNumbers a) 3 ∷ [])
+
+pub record LiftCall (tree : List ℕ) (position levels : ℕ) (out out′ answer answer′ : List ℕ) : Type 0 where
+  pub leaves : out′ ≡ liftBuffer (liftOf (length out) tree position levels) out
+  pub stores : answer′ ≡ withAnswer (resultSays (liftOf (length out) tree position levels)) answer
+
+-- "only the gathered tree may vary"
+pub record GatherCall (tree marks out out′ answer answer′ : List ℕ) : Type 0 where
+  pub verdict : Gathering
+  pub gathers : Gathers tree marks out out′ verdict
+  pub stores : answer′ ≡ withAnswer (gatheringSays verdict) answer
+
+pub record EncodeCall (tree out out′ answer answer′ : List ℕ) : Type 0 where
+  pub written : out′ ≡ bufferAfter tree out
+  pub stores : answer′ ≡ withAnswer (answerBy (encodeFault tree out) (length (codeOfList (treeOf tree)) ∷ [])) answer
+
+-- the number alone, 0 for done
+pub record PlayCall (code patch lamps lamps′ : List ℕ) (number : ℕ) : Type 0 where
+  pub numbered : number ≡ playFault code patch lamps
+  pub written : lamps′ ≡ bytesAfter code patch lamps

@@ -1,0 +1,45 @@
+-- What `key` promises: the keys of a sheet of any bytes, and what a call answers and leaves.
+use mathlib.Core.Path.{_≡_}
+use mathlib.Core.List.{List, [], _∷_}
+use mathlib.Core.Option.{Option, some, none}
+use Prim.Native.Nat.{ℕ, _≤_, _<_}
+use lib.ListN.{length}
+use Rattle.common.specs.Answer.{Answer, done}
+use Rattle.tree.specs.Tree.{Tree}
+use Rattle.tree.specs.Parse.{treeOf}
+use Rattle.tree.specs.Writing.{over}
+use Rattle.sheet.specs.Reading.{ReadingOutcome, accepted, refused, reading}
+use Rattle.key.specs.Key.{Key, refusal, answers, text}
+use Rattle.key.specs.Demand.{Demand3}
+use Rattle.key.specs.declared.KeyAnswer.{KeyAnswer}
+use Rattle.key.specs.declared.KeyAnswer.the-variants.{Written, Short}
+
+-- As many bytes as every key fits in: 10,000 LIFT lines of at most 20 bytes (a lift line of a sheet has at least 6 of its
+-- 60,000 bytes), a HELD line of at most 17, and 8,191 code lines of at most 13.
+abbrev pub keyBytes : ℕ
+keyBytes = 306500
+
+-- "It reads a sheet .. and prints `NO` number line, or: ..": a refusal for a sheet that reading refuses, and for one that it accepts
+-- a key that meets the third demand
+abbrev pub KeyOf : ReadingOutcome → Key → Type 0
+KeyOf (refused number line) k = k ≡ refusal number line
+KeyOf (accepted st) (refusal number line) = ⊥
+KeyOf (accepted st) (answers lifts held is) = (t : Tree) × (treeOf (st .entries) ≡ some t) × Demand3 t (st .marks) (st .lifts) lifts held is
+
+-- 01's number and value for each answer: a key of so many bytes is written, also one that is a refusal. That the buffer is too short
+-- for some key is no case of 01 and has no number.
+abbrev pub keySays : KeyAnswer → Option Answer
+keySays (Written count) = some (done (count ∷ []))
+keySays Short = none
+
+-- a key of the sheet was written, and nothing past it
+pub record WritesKey (sheet out : List ℕ) (r : KeyAnswer) (out′ : List ℕ) : Type 0 where
+  pub key : Key
+  pub answers : KeyOf (reading sheet) key
+  pub says : keySays r ≡ some (done (length (text key) ∷ []))
+  pub written : out′ ≡ over (text key) out
+
+-- what `key` promises for any bytes and any buffer
+pub record KeyCall (sheet out : List ℕ) (r : KeyAnswer) (out′ : List ℕ) : Type 0 where
+  pub short : length out < keyBytes → (keySays r ≡ none) × (out′ ≡ out)
+  pub long : keyBytes ≤ length out → WritesKey sheet out r out′

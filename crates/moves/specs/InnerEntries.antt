@@ -1,0 +1,25 @@
+-- The numbers by which the code's tables are read, and a table's entry. No contract of one of 01's calls cites this file.
+use Prim.Native.Nat.{ℕ}
+use Rattle.moves.specs.Moves.{Formula, State, state1, state2, state3, state4, state5, state6, state7, state8, state9, Input, under, Move, replaceT, replaceTWithD, passOnUnlessB}
+
+-- a state's number
+abbrev pub stateNumber : State → ℕ
+stateNumber state1 = 1
+stateNumber state2 = 2
+stateNumber state3 = 3
+stateNumber state4 = 4
+stateNumber state5 = 5
+stateNumber state6 = 6
+stateNumber state7 = 7
+stateNumber state8 = 8
+stateNumber state9 = 9
+
+-- an input's number: that of the kind of T's frame
+abbrev pub inputNumber : Input → ℕ
+inputNumber i = under i 0 1 2 3
+
+-- an entry of the move table
+abbrev pub entryOf : Move → Input → Formula
+entryOf (replaceT p) i = p
+entryOf (replaceTWithD p q s t) i = under i p q s t
+entryOf (passOnUnlessB p) i = p

@@ -1,0 +1,4 @@
+pub mod Moves
+pub mod InnerEntries
+pub mod InnerWords
+pub mod InnerReplacing

@@ -1,0 +1,51 @@
+-- Laws of instructions, for the crates above: which ones the player takes, lists of them, and the numbers that they are written as.
+use mathlib.Core.Path.{_≡_, refl, sym}
+use mathlib.Core.List.{List, [], _∷_, _++_, append-assoc}
+use Prim.Native.Nat.{_*_, _≤_, _<_}
+use native.Mathlib.Omega.{arith}
+use lib.ListN.{length}
+use Rattle.player.specs.Limits.{registerCount, lastGroup}
+use Rattle.player.specs.Instructions.{Rig, Registers, Instruction, load, add, cut, step, run, numbers, numbersOf, instructions}
+
+-- An instruction that names registers 0 to 12 only and, if it is a LOAD, a group from 1 to 9999
+abbrev pub WellFormed : Instruction → Type 0
+WellFormed (load target group) = (target < registerCount) × (1 ≤ group) × (group ≤ lastGroup)
+WellFormed (add target s t) = (target < registerCount) × (s < registerCount) × (t < registerCount)
+WellFormed (cut target s t) = (target < registerCount) × (s < registerCount) × (t < registerCount)
+
+-- a list of such instructions
+unfoldable pub AllWellFormed : List Instruction → Type 0
+AllWellFormed [] = Unit {0}
+AllWellFormed (i ∷ is) = WellFormed i × AllWellFormed is
+
+-- ---- two lists, one behind the other
+pub run-append : (rig : Rig) (is js : List Instruction) (R : Registers) → run rig (is ++ js) R ≡ run rig js (run rig is R)
+unfolding run
+run-append rig [] js R = refl
+run-append rig (i ∷ is) js R = run-append rig is js (step rig i R)
+
+pub numbers-append : (is js : List Instruction) → numbersOf (is ++ js) ≡ numbersOf is ++ numbersOf js
+unfolding numbersOf
+numbers-append [] js = refl
+numbers-append (i ∷ is) js = rw (numbers-append is js) (sym (append-assoc (numbers i) (numbersOf is) (numbersOf js)))
+
+-- ---- the numbers of a list
+pub numbers-length : (is : List Instruction) → length (numbersOf is) ≡ 4 * length is
+unfolding numbersOf
+numbers-length [] = refl
+numbers-length (load target group ∷ is) = omega (arith, numbers-length is)
+numbers-length (add target s t ∷ is) = omega (arith, numbers-length is)
+numbers-length (cut target s t ∷ is) = omega (arith, numbers-length is)
+
+pub all-well-formed-append : (is js : List Instruction) → AllWellFormed is → AllWellFormed js → AllWellFormed (is ++ js)
+unfolding AllWellFormed
+all-well-formed-append [] js a b = b
+all-well-formed-append (i ∷ is) js a b = (a .0, all-well-formed-append is js (a .1) b)
+
+-- read again, they give the list
+pub instructions-numbers : (is : List Instruction) → instructions (numbersOf is) ≡ is
+unfolding instructions numbersOf
+instructions-numbers [] = refl
+instructions-numbers (load target group ∷ is) = rw (instructions-numbers is)
+instructions-numbers (add target s t ∷ is) = rw (instructions-numbers is)
+instructions-numbers (cut target s t ∷ is) = rw (instructions-numbers is)
