@@ -34,6 +34,7 @@ abbrev pub placeOfFirst : Bool → Operator → Tree → CodePlace → CodePlace
 placeOfFirst f o b P =
     record { before = P .before; target = P .target; behind = code b (P .target + 1) ++ (combine (P .target) o f ∷ P .behind) }
 
+-- the other one, with target r+1
 abbrev pub placeOfSecond : Bool → Operator → Tree → CodePlace → CodePlace
 placeOfSecond f o b P =
     record { before = P .before ++ code b (P .target); target = P .target + 1; behind = combine (P .target) o f ∷ P .behind }
@@ -56,5 +57,6 @@ ownCode h c = code h (codePlace h c 0 .target)
 abbrev pub runFirst : Tree → List Frame → ℕ
 runFirst h c = length (codePlace h c 0 .before) + 1
 
+-- its length
 abbrev pub runCount : Tree → List Frame → ℕ
 runCount h c = length (ownCode h c)

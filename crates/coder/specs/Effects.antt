@@ -17,6 +17,7 @@ pub record Within (low high register : ℕ) : Type 0 where
   pub from : low ≤ register
   pub below : register < high
 
+-- an instruction names its target and, but for a LOAD, the two that it reads
 abbrev pub Names : ℕ → ℕ → Instruction → Type 0
 Names low high (load target group) = Within low high target
 Names low high (add target s t) = Within low high target × Within low high s × Within low high t
@@ -34,6 +35,7 @@ writes (load target group) q = eqb q target
 writes (add target s t) q = eqb q target
 writes (cut target s t) q = eqb q target
 
+-- whether it reads register q: a LOAD reads none
 abbrev pub reads : Instruction → ℕ → Bool
 reads (load target group) q = false
 reads (add target s t) q = eqb q s || eqb q t
@@ -54,6 +56,7 @@ unfoldable pub readFirst : ℕ → List Instruction → Bool
 readFirst q [] = false
 readFirst q (i ∷ is) = reads i q || (not (writes i q) && readFirst q is)
 
+-- nothing written yet
 abbrev pub noneWritten : ℕ → Bool
 noneWritten q = false
 
@@ -61,9 +64,11 @@ noneWritten q = false
 abbrev pub ahead : List Instruction → ℕ → List Instruction
 ahead is first = take (first - 1) is
 
+-- the run itself
 abbrev pub stretch : List Instruction → ℕ → ℕ → List Instruction
 stretch is first count = take count (drop (first - 1) is)
 
+-- what stands behind it
 abbrev pub behind : List Instruction → ℕ → ℕ → List Instruction
 behind is first count = drop (first - 1 + count) is
 

@@ -27,6 +27,7 @@ abbrev pub withAnswer : Answer → List ℕ → List ℕ
 withAnswer a array =
     sets array 0 (stored32 (answerNumbers a) 0 ∷ stored32 (answerNumbers a) 1 ∷ stored32 (answerNumbers a) 2 ∷ stored32 (answerNumbers a) 3 ∷ [])
 
+-- `lift`: what it leaves in the buffer, and its answer
 pub record LiftCall (tree : List ℕ) (position levels : ℕ) (out out′ answer answer′ : List ℕ) : Type 0 where
   pub leaves : out′ ≡ liftBuffer (liftOf (length out) tree position levels) out
   pub stores : answer′ ≡ withAnswer (resultSays (liftOf (length out) tree position levels)) answer
@@ -37,6 +38,7 @@ pub record GatherCall (tree marks out out′ answer answer′ : List ℕ) : Type
   pub gathers : Gathers tree marks out out′ verdict
   pub stores : answer′ ≡ withAnswer (gatheringSays verdict) answer
 
+-- `encode`, the same
 pub record EncodeCall (tree out out′ answer answer′ : List ℕ) : Type 0 where
   pub written : out′ ≡ bufferAfter tree out
   pub stores : answer′ ≡ withAnswer (answerBy (encodeFault tree out) (length (codeOfList (treeOf tree)) ∷ [])) answer

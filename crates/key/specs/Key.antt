@@ -40,6 +40,7 @@ ADD = 65 ∷ 68 ∷ 68 ∷ []
 abbrev pub CUT : List ℕ
 CUT = 67 ∷ 85 ∷ 84 ∷ []
 
+-- a line of a word and numbers
 abbrev pub row : List ℕ → List ℕ → Row
 row word numbers = record { word = word; numbers = numbers }
 
@@ -47,10 +48,12 @@ row word numbers = record { word = word; numbers = numbers }
 abbrev pub liftRow : LiftAnswer → Row
 liftRow a = row LIFT (a .number ∷ a .position ∷ a .looks ∷ [])
 
+-- "per lift `LIFT` number position looks"
 unfoldable pub liftRows : List LiftAnswer → List Row
 liftRows [] = []
 liftRows (a ∷ ls) = liftRow a ∷ liftRows ls
 
+-- "with marks `HELD` 0 first count .. or `HELD` 19 and nothing more"
 abbrev pub heldRows : Held → List Row
 heldRows unmarked = []
 heldRows (heldRun first count) = row HELD (0 ∷ first ∷ count ∷ []) ∷ []
@@ -62,10 +65,12 @@ instructionRow (load target group) = row LOAD (target ∷ group ∷ [])
 instructionRow (add target s t) = row ADD (target ∷ s ∷ t ∷ [])
 instructionRow (cut target s t) = row CUT (target ∷ s ∷ t ∷ [])
 
+-- "then the code"
 unfoldable pub instructionRows : List Instruction → List Row
 instructionRows [] = []
 instructionRows (i ∷ is) = instructionRow i ∷ instructionRows is
 
+-- "It .. prints `NO` number line, or: per lift ..; with marks ..; then the code"
 abbrev pub rowsOf : Key → List Row
 rowsOf (refusal number line) = row NO (number ∷ line ∷ []) ∷ []
 rowsOf (answers ls held is) = liftRows ls ++ (heldRows held ++ instructionRows is)

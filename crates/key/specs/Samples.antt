@@ -44,6 +44,7 @@ pub record SampleCannot (list marks : List ℕ) : Type 0 where
   pub faultless : gatherFault list marks mostNodes ≡ 0
   pub cannot : CannotBeGathered (isIn marks) tree
 
+-- the ten samples
 pub record Samples : Type 0 where
   -- "the example's lift"
   pub i : SampleLift (1 ∷ 2 ∷ D ∷ 3 ∷ D ∷ 4 ∷ U ∷ 5 ∷ D ∷ []) 0 2 (1 ∷ 2 ∷ 3 ∷ U ∷ 5 ∷ U ∷ D ∷ 4 ∷ 5 ∷ D ∷ U ∷ []) 0 2

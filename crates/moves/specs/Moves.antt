@@ -11,12 +11,15 @@ pub data Formula : Type 0 where
 
 infixl 70 _U_
 infixl 70 _−_
+-- union, as 01 writes it
 abbrev pub _U_ : Formula → Formula → Formula
 x U y = join union x y
 
+-- difference, as 01 writes it
 abbrev pub _−_ : Formula → Formula → Formula
 x − y = join difference x y
 
+-- "There are nine."
 pub data State : Type 0 where
   state1 state2 state3 state4 state5 state6 state7 state8 state9 : State
 
@@ -33,6 +36,7 @@ stateOf right difference t union = state7
 stateOf left difference right difference = state8
 stateOf right difference right difference = state9
 
+-- the inputs a, b, c and d
 pub data Input : Type 0 where
   inputA inputB inputC inputD : Input
 
@@ -57,6 +61,8 @@ pub data Move : Type 0 where
   replaceTWithD : Formula → Formula → Formula → Formula → Move
   passOnUnlessB : Formula → Move
 
+-- "One step replaces, in states 1 to 4, T alone: .. In states 5 to 8 it replaces T with D: .. State 9 with b gives (C−D)−(B−A). With a, c
+-- or d the step is the step of A's parent" (Table 9)
 abbrev pub moveOf : State → Move
 moveOf state1 = replaceT (A U (B U C))
 moveOf state2 = replaceT ((C − B) − A)

@@ -63,6 +63,7 @@ addKind = 2
 abbrev pub cutKind : ℕ
 cutKind = 3
 
+-- "LOAD (1) target, group, 0. ADD (2) target, s, t .. CUT (3) target, s, t"
 abbrev pub numbers : Instruction → List ℕ
 numbers (load target group) = loadKind ∷ target ∷ group ∷ 0 ∷ []
 numbers (add target s t) = addKind ∷ target ∷ s ∷ t ∷ []

@@ -25,6 +25,7 @@ wrongInstruction kind target s t =
     (outside 1 lastGroup s || not (eqb t 0))
     (outside addKind cutKind kind || (leb registerCount s || leb registerCount t))
 
+-- some instruction of the code is such a one; its numbers go four by four
 unfoldable pub wrongCode : List ℕ → Bool
 wrongCode [] = false
 wrongCode (a ∷ []) = false
@@ -40,6 +41,7 @@ wrongPairCount n = not (eqb (n % 2) 0) || ltb (2 * mostPairs) n
 abbrev pub wrongPair : ℕ → ℕ → Bool
 wrongPair group lamp = outside 1 lastGroup group || outside 1 lastLamp lamp
 
+-- some pair of the patch is such a one; its numbers go two by two
 unfoldable pub wrongPatch : List ℕ → Bool
 wrongPatch [] = false
 wrongPatch (g ∷ []) = false

@@ -34,6 +34,7 @@ letterE = 69
 abbrev pub mostPosition : ℕ
 mostPosition = 8190
 
+-- such a position
 abbrev pub isPosition : ℕ → Bool
 isPosition n = leb n mostPosition
 
@@ -41,6 +42,7 @@ isPosition n = leb n mostPosition
 abbrev pub mostLevels : ℕ
 mostLevels = 99
 
+-- such levels
 abbrev pub isLevels : ℕ → Bool
 isLevels n = leb 1 n && leb n mostLevels
 

@@ -19,9 +19,11 @@ spell (suc k) n = cond (ltb n 10) ((nought + n) ∷ []) (spell k (n / 10) ++ ((n
 unfoldable pub digits : ℕ → List ℕ
 digits n = spell (suc n) n
 
+-- a digit's byte
 abbrev pub isDigit : ℕ → Bool
 isDigit b = leb nought b && leb b (nought + 9)
 
+-- nothing but digits
 unfoldable pub allDigits : List ℕ → Bool
 allDigits [] = true
 allDigits (d ∷ ds) = isDigit d && allDigits ds
@@ -31,6 +33,7 @@ unfoldable pub value : ℕ → List ℕ → ℕ
 value v [] = v
 value v (d ∷ ds) = value (v * 10 + (d - nought)) ds
 
+-- "no leading zero": more than one byte, and the first is `0`
 abbrev pub leadingZero : List ℕ → Bool
 leadingZero f = ltb 1 (length f) && eqb (getD f 0 0) nought
 

@@ -4,9 +4,11 @@ use Prim.Native.Nat.{ℕ}
 use Rattle.text.specs.Decimal.{digits}
 use Rattle.text.specs.Parts.{Parts, last, part, join}
 
+-- "one tab"
 abbrev pub tab : ℕ
 tab = 9
 
+-- "LF (byte 10)"
 abbrev pub lineFeed : ℕ
 lineFeed = 10
 

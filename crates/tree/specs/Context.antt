@@ -6,6 +6,7 @@ use Prim.Native.Nat.{ℕ, _+_, _-_}
 use lib.ListN.{length}
 use Rattle.tree.specs.Tree.{Operator, Tree, node, postfix, size, Over}
 
+-- the earlier and the later operand of an operator
 pub data Side : Type 0 where
   left : Side
   right : Side

@@ -28,6 +28,7 @@ parse l = alone (waiting 0 l [])
 unfoldable pub treeOf : List ℕ → Option Tree
 treeOf l = cond (leb (length l) mostNodes) (parse l) none
 
+-- whether there is one
 abbrev pub isSome : {A : Type 0} → Option A → Bool
 isSome none = false
 isSome (some t) = true

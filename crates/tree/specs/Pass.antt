@@ -14,10 +14,12 @@ pub data Entry : Type 0 where
   operator : Operator → Entry
   neither : Entry
 
+-- a group if it is one, else by the operators' numbers
 abbrev pub classify : (x : ℕ) (b : Bool) → isGroup x ≡ b → Entry
 classify x true e = group x (subst T (sym e) tt)
 classify x false e = cond (eqb x (sign union)) (operator union) (cond (eqb x (sign difference)) (operator difference) neither)
 
+-- what the number x is
 unfoldable pub entryOf : ℕ → Entry
 entryOf x = classify x (isGroup x) refl
 
@@ -28,11 +30,13 @@ module _ {A : Type 0} (atLeaf : ℕ → (g : ℕ) → T (isGroup g) → A) (atNo
   operated i o (y ∷ []) = none
   operated i o (y ∷ (x ∷ s)) = some (atNode i o x y ∷ s)
 
+  -- after an entry: a leaf's value is put on the stack
   abbrev pub pushed : ℕ → Entry → List A → Option (List A)
   pushed i (group g h) s = some (atLeaf i g h ∷ s)
   pushed i (operator o) s = operated i o s
   pushed i neither s = none
 
+  -- no stack stays none
   abbrev pub andThen : Option (List A) → (List A → Option (List A)) → Option (List A)
   andThen none f = none
   andThen (some s) f = f s

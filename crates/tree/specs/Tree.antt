@@ -9,6 +9,7 @@ use lib.Dec.{T, eqb, leb}
 abbrev pub mostGroup : ℕ
 mostGroup = 9999
 
+-- the same as a test
 abbrev pub isGroup : ℕ → Bool
 isGroup g = leb 1 g && leb g mostGroup
 
@@ -20,6 +21,7 @@ mostNodes = 8191
 abbrev pub mostGroups : ℕ
 mostGroups = 8
 
+-- the operators of 01's trees
 pub data Operator : Type 0 where
   union : Operator
   difference : Operator
