@@ -6,5 +6,6 @@ pub mod GatheringLaws
 pub mod JoiningLaws
 pub mod ChoosingLaws
 pub mod HoldingLaws
+pub mod GatheredLaws
 mod LoopLaws
 mod WholeLaws

@@ -30,14 +30,17 @@ use Rattle.columns.specs.Inner.{Scanned, Room, ReadyFor, Joined}
 use Rattle.columns.specs.declared.Choice.{Choice}
 use Rattle.columns.specs.declared.Choice.the-variants.{Never, Constant, Columns}
 use Rattle.gather.specs.Gathering.{Gathered}
+use Rattle.gather.specs.InnerHolding.{status}
 use Rattle.gather.specs.Inner.{MarkedParts, Collected, BuiltFor, Ordered}
 use Rattle.gather.specs.Answer.{badMark, groupsFault, treeFault, gatherFault, GatheredTo, GathersTree}
-use Rattle.gather.specs.declared.Status.the-variants.{Free, Mixed}
+use Rattle.gather.specs.InnerGathered.{treeBy, rearranged, gatheredBy, Returned}
+use Rattle.gather.specs.declared.Status.the-variants.{Free, Mixed, All, Held}
 use Rattle.gather.specs.declared.Gathering.{Gathering}
 use Rattle.gather.specs.declared.Gathering.the-variants.{Done, Refused}
 use Rattle.gather.proofs.GatheringLaws.{fillings-cannot}
 use Rattle.gather.proofs.ChoosingLaws.{Result, Verdict, verdict, both-false}
-use Rattle.gather.proofs.HoldingLaws.{Names}
+use Rattle.gather.proofs.HoldingLaws.{Names, status-gathered}
+use Rattle.gather.proofs.GatheredLaws.{returned-tree, returned-none, returned-as}
 
 -- ---- sizes
 most-power : (k : ℕ) → mostExpanded k + 5 ≡ 5 * 2 ^ k
@@ -115,11 +118,27 @@ module _ {list gs : List ℕ} {m : ℕ} (o : Ordered list gs m) where
           go Constant v = tt
           go (Columns low high start) v = v .ready
 
+      -- a choice that is made has its tree
+      result : (c ≡ Never → ⊥) → Result (isIn (take m gs)) (rowsOf rows) (take m gs) (drop m gs) t c
+      result = go c judgement
+        where
+          go : (k : Choice) → Verdict (isIn (take m gs)) (rowsOf rows) (take m gs) (drop m gs) t k → (k ≡ Never → ⊥) → Result (isIn (take m gs)) (rowsOf rows) (take m gs) (drop m gs) t k
+          go Never v n = absurd (n refl)
+          go Constant v n = v
+          go (Columns low high start) v n = v
+
+      -- and that tree is the one named
+      tree-is : treeBy gs m t ≡ treeFor (rowsOf rows) (take m gs) (drop m gs) c
+      tree-is =
+          ap (λ (r : List Bool). treeFor (rowsOf r) (take m gs) (drop m gs) (choice (rowsOf r) (2 ^ m) (2 ^ length gs))) (sym er)
+          ∙ ap (treeFor (rowsOf rows) (take m gs) (drop m gs)) (ap₂ (choice (rowsOf rows)) (sym ew) (sym total-is) ∙ sym q)
+
       module _ (out out′ : List ℕ) (space : mostNodes ≤ length out) where
-        gathered-to : (k : Choice) → Result (isIn (take m gs)) (rowsOf rows) (take m gs) (drop m gs) t k → (count holder : ℕ)
-            → Joined (treeFor (rowsOf rows) (take m gs) (drop m gs) k) (holderFor (rowsOf rows) (take m gs) (drop m gs) k) out out′ count holder
+        gathered-to : (n : c ≡ Never → ⊥) (count holder : ℕ)
+            → Joined (treeFor (rowsOf rows) (take m gs) (drop m gs) c) (holderFor (rowsOf rows) (take m gs) (drop m gs) c) out out′ count holder
             → GatheredTo t (take m gs) out out′ count holder
-        gathered-to k r count holder j =
+        gathered-to n count holder j =
+            let r = result n in
             let f : Wrote out 0 out′ count (postfix (r .tree)) = subst (λ (x : Option Tree). Wrote out 0 out′ count (postfixOptional x)) (r .is) (j .wrote) in
             let s : size (r .tree) ≤ mostNodes = omega (
               arith,
@@ -143,16 +162,14 @@ module _ {list gs : List ℕ} {m : ℕ} (o : Ordered list gs m) where
 
         pub gathers-tree : (g : Gathering) → BuiltFor (rowsOf rows) (take m gs) (drop m gs) c out out′ g → GathersTree t (take m gs) out out′ g
         unfolding BuiltFor GathersTree
-        gathers-tree (Done count holder) (j, n) = go c judgement j n
-          where
-            go : (k : Choice) → Verdict (isIn (take m gs)) (rowsOf rows) (take m gs) (drop m gs) t k
-                → Joined (treeFor (rowsOf rows) (take m gs) (drop m gs) k) (holderFor (rowsOf rows) (take m gs) (drop m gs) k) out out′ count holder → (k ≡ Never → ⊥)
-                → GatheredTo t (take m gs) out out′ count holder
-            go Never v j n = absurd (n refl)
-            go Constant v j n = gathered-to Constant v count holder j
-            go (Columns low high start) v j n = gathered-to (Columns low high start) v count holder j
+        gathers-tree (Done count holder) (j, n) = gathered-to n count holder j
         gathers-tree (Refused n) (a, b, d) =
             (a, b, fillings-cannot (subst (Verdict (isIn (take m gs)) (rowsOf rows) (take m gs) (drop m gs) t) d judgement))
+
+        pub returns-tree : (g : Gathering) → BuiltFor (rowsOf rows) (take m gs) (drop m gs) c out out′ g → Returned (take m gs) (treeBy gs m t) out out′ g
+        unfolding BuiltFor gathered-to
+        returns-tree (Done count holder) (j, n) = returned-tree (gathered-to n count holder j) (tree-is ∙ result n .is)
+        returns-tree (Refused n) (a, b, d) = returned-none a b (tree-is ∙ ap (treeFor (rowsOf rows) (take m gs) (drop m gs)) d)
 
 -- ---- nothing at fault
 -- marks that are not bad
@@ -294,6 +311,15 @@ module _ {list marks : List ℕ} {room : ℕ} (f : Faultless list marks room) wh
     unfolding t₀
     same-tree t e = postfix-injective t t₀ (sym e ∙ f .tree .list)
 
+    -- the tree by these groups is the one by the given tree's own
+    pub all-returned : {out out′ : List ℕ} {r : Gathering} (t : Tree) → list ≡ postfix t
+        → Returned (take (length marks) (take count found)) (treeBy (take count found) (length marks) t) out out′ r → Returned marks (rearranged t marks) out out′ r
+    unfolding t₀ all
+    all-returned {out} {out′} {r} t e R =
+        let g : take count found ≡ collect marks (leaves t) = all-found ∙ ap (λ (x : Tree). collect marks (leaves x)) (sym (same-tree t e)) in
+        subst (λ (xs : List ℕ). Returned marks (treeBy xs (length marks) t) out out′ r) g
+        (subst (λ (ms : List ℕ). Returned ms (treeBy (take count found) (length marks) t) out out′ r) marks-first R)
+
     pub ordered : ((t : Tree) (p : ℕ) → list ≡ postfix t → Gathered (isIn marks) t p → ⊥) → Ordered list (take count found) (length marks)
     unfolding all
     ordered n =
@@ -320,9 +346,9 @@ module _ {list marks : List ℕ} {room : ℕ} (f : Faultless list marks room) wh
         }
 
 -- ---- a tree that is gathered already
-pub copied : {list marks out out′ : List ℕ} {n k : ℕ} (t : Tree) → treeOf list ≡ some t → mostNodes ≤ length out → Wrote out 0 out′ n list → Gathered (isIn marks) t k
+pub copied : {list marks out out′ : List ℕ} {n k : ℕ} (t : Tree) → treeOf list ≡ some t → mostNodes ≤ length out → Wrote out 0 out′ n list → Names (status (isIn marks) 0 t) k
     → GatheredTo t marks out out′ n k
-copied {list} {marks} {out} {out′} {n} {k} t e s w g =
+copied {list} {marks} {out} {out′} {n} {k} t e s w named =
     let q : list ≡ postfix t = the-same e in
     let T = tree-of-sound list t e in
     let m : size t ≤ mostNodes = omega (arith, T .most, ap length (sym q ∙ T .list), postfix-length t, postfix-length (T .tree)) in
@@ -331,12 +357,18 @@ copied {list} {marks} {out} {out′} {n} {k} t e s w g =
       result = t;
       unchanged = λ p h. refl;
       equivalent = equivalent-refl t;
-      gathered = g;
+      gathered = status-gathered (isIn marks) t k named;
       own = over-collect [] t;
       most = m;
       counted = omega (arith, v .ends, postfix-length t);
       written = wrote-over v (omega (arith, postfix-length t));
     }
+
+pub copied-returned : {list marks out out′ : List ℕ} {n k : ℕ} (t : Tree) → treeOf list ≡ some t → mostNodes ≤ length out → Wrote out 0 out′ n list → Names (status (isIn marks) 0 t) k
+    → Returned marks (gatheredBy t marks) out out′ (Done n k)
+unfolding copied
+copied-returned t q s w (inl e) = returned-as t (Held _) e (returned-tree (copied t q s w (inl e)) refl)
+copied-returned t q s w (inr e) = returned-as t (All _) e (returned-tree (copied t q s w (inr e)) refl)
 
 -- ---- choices differ
 pub not-constant : Constant ≡ Never → ⊥

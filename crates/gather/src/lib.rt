@@ -14,6 +14,7 @@ ghost use Rattle.gather.specs.Gathering.{Gathered};
 ghost use Rattle.gather.specs.InnerHolding.{merged, statusOf, status};
 ghost use Rattle.gather.specs.Inner.{Collected, BuiltFor, Ordered};
 ghost use Rattle.gather.specs.Answer.{badMark, gatherFault, GathersTree, Gathers};
+ghost use Rattle.gather.specs.InnerGathered.{treeBy, rearranged, gatheredBy, Returns, GathersBy};
 use columns::Choice;
 use columns::build_columns;
 use columns::build_constant;
@@ -247,6 +248,7 @@ fn gather_ordered(list: &[u16], groups: &[u16], m: usize, out: &mut [u16]) -> Ga
     requires { ⌜ Ordered (now list) (now groups) m ⌝ }
     requires { ⌜ mostNodes ≤ length (now out) ⌝ }
     ensures { λ r. ⌜ ((t : Tree) → now (list .entry) ≡ postfix t → GathersTree t (take m (now (groups .entry))) (now (out .entry)) (now (out .exit)) r) ⌝ }
+    ensures by { λ r. ⌜ Returns (now (list .entry)) (take m (now (groups .entry))) (treeBy (now (groups .entry)) m) (now (out .entry)) (now (out .exit)) r ⌝ }
 {
     let t = table::table(list, groups);
     let w = power(m);
@@ -260,6 +262,7 @@ fn rearrange(list: &[u16], marks: &[u16], out: &mut [u16]) -> Gathering
     requires { ⌜ gatherFault (now list) (now marks) (length (now out)) ≡ 0 ⌝ }
     requires { ⌜ ((t : Tree) (p : ℕ) → now list ≡ postfix t → Gathered (isIn (now marks)) t p → ⊥) ⌝ }
     ensures { λ r. ⌜ ((t : Tree) → treeOf (now (list .entry)) ≡ some t → GathersTree t (now (marks .entry)) (now (out .entry)) (now (out .exit)) r) ⌝ }
+    ensures by { λ r. ⌜ Returns (now (list .entry)) (now (marks .entry)) (λ t. rearranged t (now (marks .entry))) (now (out .entry)) (now (out .exit)) r ⌝ }
 {
     let nothing = Groups {
         list: [0; MOST_GROUPS],
@@ -276,6 +279,7 @@ fn rearrange(list: &[u16], marks: &[u16], out: &mut [u16]) -> Gathering
 fn gather_tree(list: &[u16], marks: &[u16], out: &mut [u16]) -> Gathering
     requires { ⌜ gatherFault (now list) (now marks) (length (now out)) ≡ 0 ⌝ }
     ensures { λ r. ⌜ ((t : Tree) → treeOf (now (list .entry)) ≡ some t → GathersTree t (now (marks .entry)) (now (out .entry)) (now (out .exit)) r) ⌝ }
+    ensures by { λ r. ⌜ Returns (now (list .entry)) (now (marks .entry)) (λ t. gatheredBy t (now (marks .entry))) (now (out .entry)) (now (out .exit)) r ⌝ }
 {
     let status = holding(list, marks);
     match status {
@@ -296,6 +300,7 @@ fn gather_tree(list: &[u16], marks: &[u16], out: &mut [u16]) -> Gathering
 // is at fault, or 19 where no tree of any size and over any groups is equivalent and gathered.
 pub fn gather(tree: &[u16], marks: &[u16], out: &mut [u16]) -> Gathering
     ensures { λ r. ⌜ Gathers (now (tree .entry)) (now (marks .entry)) (now (out .entry)) (now (out .exit)) r ⌝ }
+    ensures by { λ r. ⌜ GathersBy (now (tree .entry)) (now (marks .entry)) (now (out .entry)) (now (out .exit)) r ⌝ }
 {
     let number = fault_of(tree, marks, out.len());
     if number == 0 {

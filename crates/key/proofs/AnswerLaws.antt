@@ -2,14 +2,14 @@
 use mathlib.Core.Path.{_≡_, refl, sym, ap, subst, _∙_}
 use mathlib.Core.Bool.{Bool, true, false, cond}
 use mathlib.Core.List.{List, [], _∷_, _++_, append-nil}
-use mathlib.Core.Option.{some}
+use mathlib.Core.Option.{Option, some}
 use Prim.Native.Nat.{ℕ, _*_, _≤_, _<_}
 use native.Mathlib.Omega.{arith}
 use borrow.Author.Tests.{ltb-false}
 use lib.Dec.{ltb}
 use lib.ListN.{length, take, drop, replicate, length-append}
 use Rattle.common.specs.Answer.{done}
-use Rattle.tree.specs.Tree.{postfix, size, mostNodes, mostGroups}
+use Rattle.tree.specs.Tree.{Tree, postfix, size, mostNodes, mostGroups}
 use Rattle.tree.specs.Writing.{over}
 use Rattle.tree.specs.InnerWriting.{Wrote}
 use Rattle.tree.proofs.WritingLaws.{wrote-then, wrote-as, wrote-over, take-over}
@@ -21,11 +21,13 @@ use Rattle.text.proofs.LineLaws.{lines-append}
 use Rattle.sheet.specs.Reading.{mostBytes, mostSheetNodes, ReadingState, ReadingOutcome, accepted, refused, nothingRead, readLines, readWithin, reading, sheetOf}
 use Rattle.sheet.specs.declared.Sheet.{Sheet}
 use Rattle.sheet.proofs.AcceptedLaws.{accepted-sheet, answered-tree, answered-marks, number-accepted, number-refused, Accepted}
-use Rattle.key.specs.Key.{NO, Key, answers, refusal, text, liftRows, heldRows, instructionRows}
+use Rattle.key.specs.Key.{NO, text, liftRows, heldRows, instructionRows}
 use Rattle.key.specs.Lifting.{treeAfter, liftAnswers}
-use Rattle.key.specs.Call.{keyBytes, KeyOf, KeyCall}
+use Rattle.key.specs.Call.{keyBytes, KeyOf, keySays, KeyCall}
+use Rattle.key.specs.InnerKeyOf.{heldBy, codeBy, keyIn, keyFor, keyBy, keyOf, KeyBy}
 use Rattle.key.specs.Inner.{liftBytes, IsList, Markable, Asked, LiftedAll, Finished, ReadAs, WroteKey}
 use Rattle.key.specs.declared.Progress.{Progress}
+use Rattle.key.specs.declared.KeyAnswer.{KeyAnswer}
 use Rattle.key.specs.declared.KeyAnswer.the-variants.{Written, Short}
 use Rattle.sheet.proofs.LiftLineLaws.{lifts-few}
 use Rattle.key.proofs.LiftingLaws.{after-keeps}
@@ -64,12 +66,16 @@ module _ (s : List ℕ) (st : ReadingState) (e : reading s ≡ accepted st) (A :
 
   -- the lifts' lines, then the rest
   pub answered : {tree′ out out₁ out₂ : List ℕ} {r : Progress} {next : ℕ} → LiftedAll (A .tree) (st .lifts) tree′ r out out₁
-      → Finished (treeAfter (A .tree) (st .lifts)) (st .marks) out₁ (r .next) out₂ next → WroteKey st out out₂ next
+      → Finished (treeAfter (A .tree) (st .lifts)) (st .marks) out₁ (r .next) out₂ next → WroteKey (accepted st) out out₂ next
   answered L F =
+      let u = treeAfter (A .tree) (st .lifts) in
+      let held = heldBy u (st .marks) in
+      let is = codeBy u (st .marks) in
       record {
-        key = answers (liftAnswers (A .tree) (st .lifts)) (F .held) (F .instructions);
-        answers = (A .tree, A .is, demand-3 (A .tree) (st .marks) (st .lifts) (omega (arith, A .nodes)) (F .held) (F .instructions) (F .ends));
-        wrote = wrote-as (wrote-then (L .wrote) (F .wrote)) (unfold text in sym (lines-append (liftRows (liftAnswers (A .tree) (st .lifts))) (heldRows (F .held) ++ instructionRows (F .instructions))));
+        answers = subst (λ (o : Option Tree). KeyOf (accepted st) (keyIn st o)) (sym (A .is))
+            (A .tree, A .is, demand-3 (A .tree) (st .marks) (st .lifts) (omega (arith, A .nodes)) held is (F .ends));
+        wrote = wrote-as (wrote-then (L .wrote) (F .wrote))
+            (unfold text keyBy in sym (lines-append (liftRows (liftAnswers (A .tree) (st .lifts))) (heldRows held ++ instructionRows is)) ∙ ap (λ (o : Option Tree). text (keyIn st o)) (sym (A .is)));
         most = omega (arith, L .most, F .most, few-lifts);
       }
 
@@ -118,27 +124,29 @@ module _ {s : List ℕ} {st : ReadingState} {read : Sheet} (I : IsRead s st read
   read-marks = rw (I .marks) (marks-left s st (I .is) (I .has))
 
   pub read-answered : {tree′ out out₁ out₂ : List ℕ} {r : Progress} {next : ℕ} → LiftedAll (I .has .tree) (st .lifts) tree′ r out out₁
-      → Finished (treeAfter (I .has .tree) (st .lifts)) (take (read .marked) (read .marks)) out₁ (r .next) out₂ next → WroteKey st out out₂ next
+      → Finished (treeAfter (I .has .tree) (st .lifts)) (take (read .marked) (read .marks)) out₁ (r .next) out₂ next → WroteKey (accepted st) out out₂ next
   read-answered L F = answered s st (I .is) (I .has) L (rw (I .marks) at F)
 
   pub read-most : {tree′ out out₁ : List ℕ} {r : Progress} → LiftedAll (I .has .tree) (st .lifts) tree′ r out out₁ → r .next ≤ 200000
   read-most L = omega (arith, L .most, I .few, I .asks .counted)
 
--- ---- the contract of `key`
-pub call-written : (s out out′ : List ℕ) (n : ℕ) (o : ReadingOutcome) → reading s ≡ o → (k : Key) → KeyOf o k
-    → keyBytes ≤ length out → n ≤ keyBytes → Wrote out 0 out′ n (text k) → KeyCall s out (Written n) out′
-call-written s out out′ n o e k K room most w = record {
-  short = λ h. absurd (omega arith);
-  long = λ h. record {
-    key = k;
-    answers = subst (λ (x : ReadingOutcome). KeyOf x k) (sym e) K;
-    says = ap (λ (m : ℕ). some (done (m ∷ []))) (let z : n ≡ length (text k) = omega (arith, w .ends) in z);
-    written = wrote-over w (omega (arith, w .ends));
-  };
-}
+-- ---- the contract of `key`: both promises
+abbrev pub Keys : List ℕ → List ℕ → KeyAnswer → List ℕ → Type 0
+Keys s out r out′ = KeyCall s out r out′ × KeyBy s out r out′
 
-pub call-short : (s out : List ℕ) → length out < keyBytes → KeyCall s out Short out
-call-short s out h = record { short = λ _. (refl, refl); long = λ k. absurd (omega arith) }
+pub call-written : {s out out′ : List ℕ} {n : ℕ} {o : ReadingOutcome} → reading s ≡ o → keyBytes ≤ length out → WroteKey o out out′ n → Keys s out (Written n) out′
+unfolding keyBy
+call-written {s} {out} {out′} {n} e room k =
+    let W : WroteKey (reading s) out out′ n = subst (λ (o : ReadingOutcome). WroteKey o out out′ n) (sym e) k in
+    let w = W .wrote in
+    let says : keySays (Written n) ≡ some (done (length (keyOf s) ∷ [])) = ap (λ (m : ℕ). some (done (m ∷ []))) (let z : n ≡ length (keyOf s) = omega (arith, w .ends) in z) in
+    let written : out′ ≡ over (keyOf s) out = wrote-over w (omega (arith, w .ends, W .most)) in (
+      record { short = λ h. absurd (omega arith); long = λ h. record { key = keyFor (reading s); answers = W .answers; says = says; written = written } },
+      record { by = λ h. (says, written) },
+    )
+
+pub call-short : (s out : List ℕ) → length out < keyBytes → Keys s out Short out
+call-short s out h = (record { short = λ _. (refl, refl); long = λ k. absurd (omega arith) }, record { by = λ k. absurd (omega arith) })
 
 pub accepted-read : (s : List ℕ) (read : Sheet) → read ≡ sheetOf (reading s) → read .number ≡ 0 → (st : ReadingState) × ReadAs s read st
 accepted-read s read e z =
@@ -146,11 +154,8 @@ accepted-read s read e z =
     (n .0, record { accepts = n .1; answers = e ∙ ap sheetOf (n .1) })
 
 pub call-refused : (s out out′ : List ℕ) (n : ℕ) (read : Sheet) → read ≡ sheetOf (reading s) → (read .number ≡ 0 → ⊥) → keyBytes ≤ length out → n ≤ keyBytes
-    → Wrote out 0 out′ n (line NO (read .number ∷ read .line ∷ [])) → KeyCall s out (Written n) out′
+    → Wrote out 0 out′ n (line NO (read .number ∷ read .line ∷ [])) → Keys s out (Written n) out′
 call-refused s out out′ n read e z room most w =
     let q : reading s ≡ refused (read .number) (read .line) = rw (← e) at (number-refused s (rw e at z)) in
-    call-written s out out′ n (refused (read .number) (read .line)) q (refusal (read .number) (read .line)) refl room most
-    (wrote-as w (unfold text lines in sym (append-nil (line NO (read .number ∷ read .line ∷ [])))))
-
-pub call-answered : {s out out′ : List ℕ} {n : ℕ} {read : Sheet} {st : ReadingState} → ReadAs s read st → keyBytes ≤ length out → WroteKey st out out′ n → KeyCall s out (Written n) out′
-call-answered {s} {out} {out′} {n} {read} {st} R room A = call-written s out out′ n (accepted st) (R .accepts) (A .key) (A .answers) room (A .most) (A .wrote)
+    call-written q room
+    (record { answers = refl; wrote = wrote-as w (unfold text lines keyBy in sym (append-nil (line NO (read .number ∷ read .line ∷ [])))); most = most })

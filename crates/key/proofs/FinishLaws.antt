@@ -1,8 +1,9 @@
 -- What follows the lifts: the code of the tree that they leave, or the HELD line and the code of the gathered tree.
-use mathlib.Core.Path.{_≡_, refl, sym, ap, subst, _∙_}
+use mathlib.Core.Path.{_≡_, refl, sym, ap, ap₂, subst, _∙_}
 use mathlib.Core.Bool.{Bool}
-use mathlib.Core.List.{List, [], _∷_, append-nil}
-use Prim.Native.Nat.{ℕ, _*_, _≤_, _<_}
+use mathlib.Core.List.{List, [], _∷_, _++_, append-nil}
+use mathlib.Core.Option.{some, none}
+use Prim.Native.Nat.{ℕ, _+_, _*_, _≤_, _<_}
 use native.Mathlib.Omega.{arith}
 use borrow.Author.Tests.{lt-ltb}
 use lib.ListN.{length, take, drop, length-append}
@@ -16,15 +17,19 @@ use Rattle.tree.proofs.ParseLaws.{tree-of-postfix}
 use Rattle.tree.proofs.WritingLaws.{wrote-then, wrote-as, take-over}
 use Rattle.text.specs.Line.{line, lines}
 use Rattle.coder.specs.Code.{code, codePlace, runFirst, runCount}
-use Rattle.coder.specs.Coding.{runOf}
+use Rattle.coder.specs.Coding.{codeOfList, runOf}
 use Rattle.coder.specs.declared.Run.{Run}
 use Rattle.coder.proofs.Theorems.{code-length, code-well-formed, closed-run}
 use Rattle.gather.specs.Gathering.{Gathered, CannotBeGathered}
 use Rattle.gather.specs.Answer.{gatherFault, GatheredTo, GathersTree, Gathers}
+use Rattle.gather.specs.InnerGathered.{gatheredBy, holderOf, Returned, GathersBy}
 use Rattle.gather.specs.declared.Gathering.{Gathering}
 use Rattle.gather.specs.declared.Gathering.the-variants.{Done, Refused}
-use Rattle.key.specs.Key.{unmarked, heldRun, cannot, HELD, instructionRows}
-use Rattle.key.specs.Inner.{heldBytes, instructionBytes, IsList, Markable, Finished}
+use Rattle.gather.proofs.GatheredLaws.{holder-of, named-tree, named-none}
+use Rattle.player.specs.Instructions.{Instruction}
+use Rattle.key.specs.Key.{Held, unmarked, cannot, HELD, heldRows, instructionRows}
+use Rattle.key.specs.InnerKeyOf.{heldAs, heldIn, heldBy, codeBy}
+use Rattle.key.specs.Inner.{heldBytes, instructionBytes, IsList, Markable, Ends, Finished}
 use Rattle.key.proofs.PrintingLaws.{code-most, held-most, never-most}
 use Rattle.key.proofs.GatheringLaws.{no-fault}
 
@@ -36,32 +41,54 @@ pub empty-list : (l : List ℕ) → length l ≡ 0 → l ≡ []
 empty-list [] e = refl
 empty-list (x ∷ l) e = absurd (omega arith)
 
+-- the lines and the instructions named, said in another way
+finished : {u : Tree} {marks out out′ : List ℕ} {at next : ℕ} (held : Held) (is : List Instruction) → heldBy u marks ≡ held → codeBy u marks ≡ is → Ends u marks held is
+    → Wrote out at out′ next (lines (heldRows held ++ instructionRows is)) → next ≤ at + heldBytes + instructionBytes * mostNodes → Finished u marks out at out′ next
+finished held is e f E w h = record { ends = rw (e, f) E; wrote = rw (e, f) w; most = h }
+
 -- ---- without marks
 pub finished-plain : {u : Tree} {marks out out′ : List ℕ} {at next : ℕ} → size u ≤ mostNodes → marks ≡ [] → Wrote out at out′ next (lines (instructionRows (code u 0)))
     → Finished u marks out at out′ next
-finished-plain {u} h e w = record {
-  held = unmarked;
-  instructions = code u 0;
-  ends = (e, refl);
-  wrote = w;
-  most = omega (arith, w .ends, tree-code-most u h);
-}
+finished-plain {u} h e w = finished unmarked (code u 0) (rw e) (rw e) (e, refl) w (omega (arith, w .ends, tree-code-most u h))
 
 -- ---- with marks: what `gather` says where reading found no fault
+held-marked : (u : Tree) (marks : List ℕ) → 1 ≤ length marks → heldBy u marks ≡ heldIn marks (gatheredBy u marks)
+held-marked u [] h = absurd (omega arith)
+held-marked u (m ∷ marks) h = refl
+
+code-marked : (u : Tree) (marks : List ℕ) → 1 ≤ length marks → codeBy u marks ≡ codeOfList (gatheredBy u marks)
+code-marked u [] h = absurd (omega arith)
+code-marked u (m ∷ marks) h = refl
+
+-- the tree returned, and that it is the one named
+pub record NamedTo (u : Tree) (marks out out′ : List ℕ) (count holder : ℕ) : Type 0 where
+  pub to : GatheredTo u marks out out′ count holder
+  pub is : gatheredBy u marks ≡ some (to .result)
+
 module _ (list marks out out′ : List ℕ) (r : Gathering) (u : Tree) (w : IsList list u) (M : Markable u marks) (some-mark : 1 ≤ length marks) (full : mostNodes ≤ length out)
-    (G : Gathers list marks out out′ r) where
+    (G : Gathers list marks out out′ r × GathersBy list marks out out′ r) where
+  fault-none : gatherFault list marks (length out) ≡ 0
+  fault-none = ap (λ (l : List ℕ). gatherFault l marks (length out)) (w .list) ∙ no-fault u marks (length out) (w .most) full some-mark M
+
+  is-tree : treeOf list ≡ some u
+  is-tree = ap treeOf (w .list) ∙ tree-of-postfix u (w .most)
+
   gathers : GathersTree u marks out out′ r
-  gathers =
-      G .gathers (ap (λ (l : List ℕ). gatherFault l marks (length out)) (w .list) ∙ no-fault u marks (length out) (w .most) full some-mark M) u
-      (ap treeOf (w .list) ∙ tree-of-postfix u (w .most))
+  gathers = G .0 .gathers fault-none u is-tree
 
-  pub gathered-never : (n : ℕ) → r ≡ Refused n → CannotBeGathered (isIn marks) u
-  unfolding GathersTree
-  gathered-never n e = subst (GathersTree u marks out out′) e gathers .2
+  returned : Returned marks (gatheredBy u marks) out out′ r
+  returned = G .1 .by fault-none u is-tree
 
-  pub gathered-done : (count holder : ℕ) → r ≡ Done count holder → GatheredTo u marks out out′ count holder
+  pub gathered-never : (n : ℕ) → r ≡ Refused n → CannotBeGathered (isIn marks) u × (gatheredBy u marks ≡ none)
   unfolding GathersTree
-  gathered-done count holder e = subst (GathersTree u marks out out′) e gathers
+  gathered-never n e =
+      (subst (GathersTree u marks out out′) e gathers .2, named-none (gatheredBy u marks) (subst (Returned marks (gatheredBy u marks) out out′) e returned))
+
+  pub gathered-done : (count holder : ℕ) → r ≡ Done count holder → NamedTo u marks out out′ count holder
+  unfolding GathersTree
+  gathered-done count holder e =
+      let D : GatheredTo u marks out out′ count holder = subst (GathersTree u marks out out′) e gathers in
+      record { to = D; is = named-tree D (gatheredBy u marks) (subst (Returned marks (gatheredBy u marks) out out′) e returned) }
 
 -- the gathered tree's list stands at the front
 pub gathered-list : {u : Tree} {marks out out′ : List ℕ} {count holder : ℕ} (D : GatheredTo u marks out out′ count holder) → IsList (take count out′) (D .result)
@@ -98,40 +125,35 @@ module _ (g : Tree) (m : ℕ → Bool) (p : ℕ) (H : Gathered m g p) (most : si
       some-count = omega (arith, code-length (H .holder) (codePlace (H .holder) (H .above) 0 .target), size-positive (H .holder))
 
 -- ---- both answers of `put_held`
-pub finished-never : {u : Tree} {marks out out′ : List ℕ} {at next : ℕ} → 1 ≤ length marks → CannotBeGathered (isIn marks) u → Wrote out at out′ next (line HELD (19 ∷ []))
-    → Finished u marks out at out′ next
-finished-never k C w = record {
-  held = cannot;
-  instructions = [];
-  ends = (k, C, refl);
-  wrote = wrote-as w (unfold lines instructionRows in sym (append-nil (line HELD (19 ∷ []))));
-  most = omega (arith, w .ends, never-most);
-}
+pub finished-never : {u : Tree} {marks out out′ : List ℕ} {at next : ℕ} → 1 ≤ length marks → CannotBeGathered (isIn marks) u × (gatheredBy u marks ≡ none)
+    → Wrote out at out′ next (line HELD (19 ∷ [])) → Finished u marks out at out′ next
+finished-never {u} {marks} k (C, e) w =
+    finished cannot [] (held-marked u marks k ∙ ap (heldIn marks) e) (code-marked u marks k ∙ ap codeOfList e) (k, C, refl)
+    (wrote-as w (unfold lines instructionRows in sym (append-nil (line HELD (19 ∷ []))))) (omega (arith, w .ends, never-most))
 
-pub finished-held : {u : Tree} {marks old new out out₁ out₂ : List ℕ} {count holder at next last : ℕ} (D : GatheredTo u marks old new count holder) (run : Run) → run ≡ runOf (treeOf (take count new)) holder
-    → 1 ≤ length marks → Wrote out at out₁ next (line HELD (0 ∷ run .first ∷ run .count ∷ [])) → Wrote out₁ next out₂ last (lines (instructionRows (code (D .result) 0)))
-    → Finished u marks out at out₂ last
+pub finished-held : {u : Tree} {marks old new out out₁ out₂ : List ℕ} {count holder at next last : ℕ} (D : NamedTo u marks old new count holder) (run : Run)
+    → run ≡ runOf (treeOf (take count new)) holder → 1 ≤ length marks → Wrote out at out₁ next (line HELD (0 ∷ run .first ∷ run .count ∷ []))
+    → Wrote out₁ next out₂ last (lines (instructionRows (code (D .to .result) 0))) → Finished u marks out at out₂ last
 finished-held {u} {marks} {old} {new} {out} {out₁} {out₂} {count} {holder} D run R k w v =
-    let l = gathered-list D .list in
-    let g = D .result in
-    record {
-      held = heldRun (run .first) (run .count);
-      instructions = code g 0;
-      ends = (
-        k,
-        record {
-          tree = g;
-          position = holder;
-          unchanged = D .unchanged;
-          equivalent = D .equivalent;
-          gathered = D .gathered;
-          own = D .own;
-          most = D .most;
-          coded = refl;
-          firstIs = run-first g (isIn marks) holder (D .gathered) (D .most) (take count new) l run R;
-          countIs = run-count g (isIn marks) holder (D .gathered) (D .most) (take count new) l run R;
-        },
-      );
-      wrote = wrote-as (wrote-then w v) (unfold lines in refl);
-      most = omega (arith, w .ends, v .ends, tree-code-most g (D .most), run-line g (isIn marks) holder (D .gathered) (D .most) (take count new) l run R);
-    }
+    let T = D .to in
+    let g = T .result in
+    let l = gathered-list T .list in
+    let named : run ≡ runOf (some g) (holderOf marks g)
+    = R ∙ ap₂ runOf (ap treeOf l ∙ tree-of-postfix g (T .most)) (holder-of marks (T .gathered)) in
+    finished (heldAs run) (code g 0) (held-marked u marks k ∙ ap (heldIn marks) (D .is) ∙ ap heldAs (sym named)) (code-marked u marks k ∙ ap codeOfList (D .is)) (
+      k,
+      record {
+        tree = g;
+        position = holder;
+        unchanged = T .unchanged;
+        equivalent = T .equivalent;
+        gathered = T .gathered;
+        own = T .own;
+        most = T .most;
+        coded = refl;
+        firstIs = run-first g (isIn marks) holder (T .gathered) (T .most) (take count new) l run R;
+        countIs = run-count g (isIn marks) holder (T .gathered) (T .most) (take count new) l run R;
+      },
+    )
+    (wrote-as (wrote-then w v) (unfold lines in refl))
+    (omega (arith, w .ends, v .ends, tree-code-most g (T .most), run-line g (isIn marks) holder (T .gathered) (T .most) (take count new) l run R))

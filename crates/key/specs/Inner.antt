@@ -12,13 +12,14 @@ use Rattle.player.specs.Instructions.{Instruction}
 use Rattle.coder.specs.Code.{code}
 use Rattle.gather.specs.Gathering.{CannotBeGathered}
 use Rattle.sheet.specs.Form.{mostPosition, mostLevels}
-use Rattle.sheet.specs.Reading.{LiftLine, ReadingState, accepted, reading, sheetOf}
+use Rattle.sheet.specs.Reading.{LiftLine, ReadingState, ReadingOutcome, accepted, reading, sheetOf}
 use Rattle.sheet.specs.InnerLines.{LiftsTo}
 use Rattle.sheet.specs.declared.Sheet.{Sheet}
-use Rattle.key.specs.Key.{Held, unmarked, heldRun, cannot, Key, text, liftRow, liftRows, heldRows, instructionRows}
+use Rattle.key.specs.Key.{Held, unmarked, heldRun, cannot, liftRow, liftRows, heldRows, instructionRows}
 use Rattle.key.specs.Lifting.{lifting, treeLeft, liftAnswer, treeAfter, liftAnswers}
 use Rattle.key.specs.Demand.{HeldCode}
 use Rattle.key.specs.Call.{keyBytes, KeyOf}
+use Rattle.key.specs.InnerKeyOf.{heldBy, codeBy, keyFor, keyBy}
 use Rattle.key.specs.declared.Progress.{Progress}
 
 -- a line's bytes
@@ -100,10 +101,8 @@ MarkedTree tree marks out at = ((u : Tree) × IsList tree u × Markable u marks)
 
 -- the HELD line, if any, and the code
 pub record Finished (u : Tree) (marks out : List ℕ) (at : ℕ) (out′ : List ℕ) (next : ℕ) : Type 0 where
-  pub held : Held
-  pub instructions : List Instruction
-  pub ends : Ends u marks held instructions
-  pub wrote : Wrote out at out′ next (lines (heldRows held ++ instructionRows instructions))
+  pub ends : Ends u marks (heldBy u marks) (codeBy u marks)
+  pub wrote : Wrote out at out′ next (lines (heldRows (heldBy u marks) ++ instructionRows (codeBy u marks)))
   pub most : next ≤ at + heldBytes + instructionBytes * mostNodes
 
 abbrev pub Finishes : (tree marks out : List ℕ) (at : ℕ) (out′ : List ℕ) (next : ℕ) → Type 0
@@ -115,9 +114,8 @@ pub record ReadAs (sheet : List ℕ) (read : Sheet) (st : ReadingState) : Type 0
   pub accepts : reading sheet ≡ accepted st
   pub answers : read ≡ sheetOf (accepted st)
 
--- the whole key of a sheet that reading accepts with the state st
-pub record WroteKey (st : ReadingState) (out out′ : List ℕ) (next : ℕ) : Type 0 where
-  pub key : Key
-  pub answers : KeyOf (accepted st) key
-  pub wrote : Wrote out 0 out′ next (text key)
+-- the whole key of a sheet, by what reading comes to
+pub record WroteKey (o : ReadingOutcome) (out out′ : List ℕ) (next : ℕ) : Type 0 where
+  pub answers : KeyOf o (keyFor o)
+  pub wrote : Wrote out 0 out′ next (keyBy o)
   pub most : next ≤ keyBytes

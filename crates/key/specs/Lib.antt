@@ -3,4 +3,5 @@ pub mod Lifting
 pub mod Demand
 pub mod Call
 pub mod Samples
+pub mod InnerKeyOf
 pub mod Inner

@@ -8,10 +8,11 @@ ghost use Rattle.tree.specs.InnerWriting.{Wrote};
 ghost use Rattle.text.specs.Line.{lines};
 ghost use Rattle.player.specs.Instructions.{instruction, instructions};
 ghost use Rattle.coder.specs.Code.{code as codeOf};
-ghost use Rattle.sheet.specs.Reading.{LiftLine, ReadingState};
+ghost use Rattle.sheet.specs.Reading.{LiftLine, ReadingState, accepted};
 ghost use Rattle.sheet.specs.declared.Line.the-variants.{Lift};
 ghost use Rattle.key.specs.Key.{instructionRow, instructionRows};
 ghost use Rattle.key.specs.Call.{keyBytes, KeyCall};
+ghost use Rattle.key.specs.InnerKeyOf.{KeyBy};
 ghost use Rattle.key.specs.Inner.{rowText, liftBytes, instructionBytes, IsList, InArray, LiftRoom, LiftsOne, Asked, LiftsAll, MarkedTree, Finishes, ReadAs, WroteKey};
 
 // As many bytes as every key fits in.
@@ -182,7 +183,7 @@ fn finish(tree: &[u16], marks: &[u16], out: &mut [u8], at: usize) -> usize
 // The key of a sheet that reading accepts.
 fn answer_sheet(sheet: &[u8], read: sheet::Sheet, out: &mut [u8]) -> usize
     requires { ⌜ ((st : ReadingState) × ReadAs (now sheet) read st) × (keyBytes ≤ length (now out)) ⌝ }
-    ensures { λ r. ⌜ ((st : ReadingState) → ReadAs (now (sheet .entry)) read st → WroteKey st (now (out .entry)) (now (out .exit)) r) ⌝ }
+    ensures { λ r. ⌜ ((st : ReadingState) → ReadAs (now (sheet .entry)) read st → WroteKey (accepted st) (now (out .entry)) (now (out .exit)) r) ⌝ }
 {
     let mut tree = [0u16; tree::MOST_NODES];
     let entries = read.tree;
@@ -204,6 +205,7 @@ pub enum KeyAnswer {
 // Writes the key of a sheet of any bytes into `out`.
 pub fn key(sheet: &[u8], out: &mut [u8]) -> KeyAnswer
     ensures { λ r. ⌜ KeyCall (now (sheet .entry)) (now (out .entry)) r (now (out .exit)) ⌝ }
+    ensures by { λ r. ⌜ KeyBy (now (sheet .entry)) (now (out .entry)) r (now (out .exit)) ⌝ }
 {
     if out.len() < KEY_BYTES {
         return KeyAnswer::Short;

@@ -33,7 +33,7 @@ same-length-2 c = search needs
 returns : tie.Need-returns
 returns c =
     let gather = c .before .before .before .before .before .before .before .before .before .gather in
-    record { verdict = gather .result; gathers = gather .ensures; stores = c .before .before .store-all .ensures ∙ ap (λ (a : Answer). withAnswer a (c .before .before .before .before .before .before .before .before .before .before .before .before .before .before .before .args .answer .now)) (sym (ap gatheringSays (c .before .before .before .before .before .gathered .given .1))) }
+    record { verdict = gather .result; gathers = gather .ensures .0; stores = c .before .before .store-all .ensures ∙ ap (λ (a : Answer). withAnswer a (c .before .before .before .before .before .before .before .before .before .before .before .before .before .before .before .args .answer .now)) (sym (ap gatheringSays (c .before .before .before .before .before .gathered .given .1))) }
 
 same-length-3 : tie.Need-same-length-3
 same-length-3 c = search needs
@@ -44,7 +44,7 @@ same-length-4 c = search needs
 returns-2 : tie.Need-returns-2
 returns-2 c =
     let gather = c .before .before .before .before .before .before .before .before .before .gather in
-    record { verdict = gather .result; gathers = gather .ensures; stores = c .before .before .store-all2 .ensures ∙ ap (λ (a : Answer). withAnswer a (c .before .before .before .before .before .before .before .before .before .before .before .before .before .before .before .args .answer .now)) (sym (ap gatheringSays (c .before .before .before .before .before .gathered2 .given .1))) }
+    record { verdict = gather .result; gathers = gather .ensures .0; stores = c .before .before .store-all2 .ensures ∙ ap (λ (a : Answer). withAnswer a (c .before .before .before .before .before .before .before .before .before .before .before .before .before .before .before .args .answer .now)) (sym (ap gatheringSays (c .before .before .before .before .before .gathered2 .given .1))) }
 
 pub gather-call-spec : {M : Type 1} → statement M
 gather-call-spec =

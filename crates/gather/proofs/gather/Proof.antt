@@ -17,10 +17,17 @@ returns : tie.Need-returns
 returns c =
     let fault-of = c .before .before .before .before .before .fault-of in
     let if1 = c .before .before .before .before .if1 in
-    record { faulty = λ n. absurd (n (sym (fault-of .ensures) ∙ if1 .taken)); gathers = λ e t q. c .before .before .gather-tree .ensures t q }
+    let done = c .before .before .gather-tree .ensures in (
+      record { faulty = λ n. absurd (n (sym (fault-of .ensures) ∙ if1 .taken)); gathers = λ e t q. done .0 t q },
+      record { by = λ e t q. done .1 t q },
+    )
 
 returns-2 : tie.Need-returns-2
-returns-2 c = record { faulty = λ n. (ap refusedWith (c .before .fault-of .ensures), refl); gathers = λ e. absurd (c .if1 .left (c .before .fault-of .ensures ∙ e)) }
+returns-2 c =
+    let fault = c .before .fault-of .ensures in (
+      record { faulty = λ n. (ap refusedWith fault, refl); gathers = λ e. absurd (c .if1 .left (fault ∙ e)) },
+      record { by = λ e. absurd (c .if1 .left (fault ∙ e)) },
+    )
 
 pub gather-spec : {M : Type 1} → statement M
 gather-spec =

@@ -3,7 +3,7 @@ use native.Mathlib.Omega.{arith}
 use lib.ListN.{length}
 use Rattle.table.specs.InnerTable.{table}
 use Rattle.table.proofs.TableLaws.{length-table}
-use Rattle.gather.proofs.WholeLaws.{marks-length, rest-all, total-most, scanned, room, ready-for, gathers-tree}
+use Rattle.gather.proofs.WholeLaws.{the-same, marks-length, rest-all, total-most, scanned, room, ready-for, gathers-tree, returns-tree}
 use borrow.Author.Needs.{needs}
 use Rattle.gather.proofs.gather_ordered.Statement.{statement}
 use Rattle.gather.proofs.gather_ordered.Tie as tie
@@ -64,7 +64,12 @@ returns c =
     let power = c .before .before .before .before .before .before .before .before .before .before .power in
     let power2 = c .before .before .before .before .before .before .before .before .before .power2 in
     let choose = c .before .before .before .before .before .before .before .choose in
-    let p = c .before .before .before .before .before .before .before .before .before .before .before .before .before .before .before .pre in let o = p .1 .0 in λ t e. gathers-tree o _ _ (power .ensures) (power2 .ensures) t e _ (table .ensures t e) _ (choose .ensures) _ _ (p .1 .1) _ (rw (rest-all o) at (c .before .before .build .ensures))
+    let p = c .before .before .before .before .before .before .before .before .before .before .before .before .before .before .before .pre in
+    let o = p .1 .0 in
+    let built = rw (rest-all o) at (c .before .before .build .ensures) in (
+      λ t e. gathers-tree o _ _ (power .ensures) (power2 .ensures) t e _ (table .ensures t e) _ (choose .ensures) _ _ (p .1 .1) _ built,
+      λ t q. let e = the-same q in returns-tree o _ _ (power .ensures) (power2 .ensures) t e _ (table .ensures t e) _ (choose .ensures) _ _ (p .1 .1) _ built,
+    )
 
 pub gather-ordered-spec : {M : Type 1} → statement M
 gather-ordered-spec =

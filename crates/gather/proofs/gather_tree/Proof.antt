@@ -2,8 +2,10 @@ use Rattle.gather.specs.Answer.{GathersTree}
 use mathlib.Core.Path.{sym, _∙_}
 use mathlib.Core.Logic.{inl, inr}
 use native.Mathlib.Omega.{arith}
-use Rattle.gather.proofs.HoldingLaws.{status-gathered, status-not}
-use Rattle.gather.proofs.WholeLaws.{faultless, faultless-list, the-same, copied, not-free, not-mixed}
+use Rattle.gather.proofs.HoldingLaws.{status-not}
+use Rattle.gather.proofs.GatheredLaws.{returned-as}
+use Rattle.gather.specs.declared.Status.the-variants.{Free, Mixed}
+use Rattle.gather.proofs.WholeLaws.{faultless, faultless-list, the-same, copied, copied-returned, not-free, not-mixed}
 use borrow.Author.Needs.{needs}
 use Rattle.gather.proofs.gather_tree.Statement.{statement}
 use Rattle.gather.proofs.gather_tree.Tie as tie
@@ -51,13 +53,21 @@ same-length : tie.Need-same-length
 same-length c = search needs
 
 returns : tie.Need-returns
-returns c = search needs
+returns c =
+    let holding = c .before .before .before .before .before .before .holding in
+    let told = c .before .before .before .before .enum-told in
+    let done = c .before .before .rearrange .ensures in
+    (done .0, λ t q. returned-as t Free (sym (holding .ensures t (the-same q)) ∙ told .given .1) (done .1 t q))
 
 same-length-2 : tie.Need-same-length-2
 same-length-2 c = search needs
 
 returns-2 : tie.Need-returns-2
-returns-2 c = search needs
+returns-2 c =
+    let holding = c .before .before .before .before .before .before .holding in
+    let told = c .before .before .before .before .enum-told2 in
+    let done = c .before .before .rearrange2 .ensures in
+    (done .0, λ t q. returned-as t Mixed (sym (holding .ensures t (the-same q)) ∙ told .given .1) (done .1 t q))
 
 same-length-3 : tie.Need-same-length-3
 same-length-3 c = search needs
@@ -68,7 +78,11 @@ returns-3 c =
     let pre = c .before .before .before .before .before .before .before .before .before .before .before .pre in
     let holding = c .before .before .before .before .before .before .before .holding in
     let status = c .before .before .before .before .before .status in
-    let f = faultless _ _ _ pre in λ t q. copied t q (f .space) (c .before .before .copy .ensures) (status-gathered _ t _ (inr (sym (holding .ensures t (the-same q)) ∙ status .given .1)))
+    let copied-list = c .before .before .copy .ensures in
+    let f = faultless _ _ _ pre in (
+      λ t q. copied t q (f .space) copied-list (inr (sym (holding .ensures t (the-same q)) ∙ status .given .1)),
+      λ t q. copied-returned t q (f .space) copied-list (inr (sym (holding .ensures t (the-same q)) ∙ status .given .1)),
+    )
 
 same-length-4 : tie.Need-same-length-4
 same-length-4 c = search needs
@@ -79,7 +93,11 @@ returns-4 c =
     let pre = c .before .before .before .before .before .before .before .before .before .before .before .pre in
     let holding = c .before .before .before .before .before .before .before .holding in
     let status2 = c .before .before .before .before .before .status2 in
-    let f = faultless _ _ _ pre in λ t q. copied t q (f .space) (c .before .before .copy2 .ensures) (status-gathered _ t _ (inl (sym (holding .ensures t (the-same q)) ∙ status2 .given .1)))
+    let copied-list = c .before .before .copy2 .ensures in
+    let f = faultless _ _ _ pre in (
+      λ t q. copied t q (f .space) copied-list (inl (sym (holding .ensures t (the-same q)) ∙ status2 .given .1)),
+      λ t q. copied-returned t q (f .space) copied-list (inl (sym (holding .ensures t (the-same q)) ∙ status2 .given .1)),
+    )
 
 pub gather-tree-spec : {M : Type 1} → statement M
 gather-tree-spec =

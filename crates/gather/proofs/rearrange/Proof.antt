@@ -2,7 +2,7 @@ use mathlib.Core.Path.{_≡_, sym}
 use native.Mathlib.Omega.{arith}
 use lib.ListN.{length}
 use lib.Seq.{length-take-le}
-use Rattle.gather.proofs.WholeLaws.{faultless, faultless-list, the-same, first-count, all-count, marks-first, ordered}
+use Rattle.gather.proofs.WholeLaws.{faultless, faultless-list, the-same, first-count, all-count, marks-first, all-returned, ordered}
 use borrow.Author.Needs.{needs}
 use Rattle.gather.proofs.rearrange.Statement.{statement}
 use Rattle.gather.proofs.rearrange.Tie as tie
@@ -41,7 +41,11 @@ returns c =
     let pre = c .before .before .before .before .before .before .before .before .before .before .before .pre in
     let add-groups = c .before .before .before .before .before .before .before .add-groups in
     let add-groups2 = c .before .before .before .before .before .before .add-groups2 in
-    λ t q. rw (marks-first (faultless _ _ _ (pre .0)) _ _ (add-groups .ensures) _ _ (add-groups2 .ensures)) at (c .before .before .gather-ordered .ensures t (the-same q))
+    let f = faultless _ _ _ (pre .0) in
+    let done = c .before .before .gather-ordered .ensures in (
+      λ t q. rw (marks-first f _ _ (add-groups .ensures) _ _ (add-groups2 .ensures)) at (done .0 t (the-same q)),
+      λ t q. all-returned f _ _ (add-groups .ensures) _ _ (add-groups2 .ensures) t (the-same q) (done .1 t q),
+    )
 
 pub rearrange-spec : {M : Type 1} → statement M
 rearrange-spec =

@@ -1,6 +1,6 @@
 use native.Mathlib.Omega.{arith}
 use Rattle.key.proofs.PrintingLaws.{no-most}
-use Rattle.key.proofs.AnswerLaws.{call-short, accepted-read, call-refused, call-answered}
+use Rattle.key.proofs.AnswerLaws.{call-short, accepted-read, call-written, call-refused}
 use borrow.Author.Needs.{needs}
 use Rattle.key.proofs.key.Statement.{statement}
 use Rattle.key.proofs.key.Tie as tie
@@ -57,7 +57,7 @@ returns-3 c =
     let read = c .before .before .before .before .before .read in
     let if2 = c .before .before .before .before .if2 in
     let z = accepted-read (args .sheet .now) (read .result) (read .ensures) (if2 .left) in
-    call-answered (z .1) (if1 .left) (c .before .before .answer-sheet .ensures (z .0) (z .1))
+    call-written (z .1 .accepts) (if1 .left) (c .before .before .answer-sheet .ensures (z .0) (z .1))
 
 pub key-spec : {M : Type 1} → statement M
 key-spec =

@@ -1,0 +1,65 @@
+-- The very key that is written, a function of the sheet. 01 leaves the gathered tree free, and with it the key; a reader need not
+-- believe a line of this: `KeyCall` says what a key must be.
+use mathlib.Core.Path.{_≡_}
+use mathlib.Core.List.{List, [], _∷_}
+use mathlib.Core.Option.{Option, some, none}
+use Prim.Native.Nat.{ℕ, _≤_}
+use lib.ListN.{length}
+use Rattle.common.specs.Answer.{done}
+use Rattle.tree.specs.Tree.{Tree}
+use Rattle.tree.specs.Parse.{treeOf}
+use Rattle.tree.specs.Writing.{over}
+use Rattle.player.specs.Instructions.{Instruction}
+use Rattle.coder.specs.Code.{code}
+use Rattle.coder.specs.Coding.{codeOfList, runOf}
+use Rattle.coder.specs.declared.Run.{Run}
+use Rattle.gather.specs.InnerGathered.{gatheredBy, holderOf}
+use Rattle.sheet.specs.Reading.{ReadingState, ReadingOutcome, accepted, refused, reading}
+use Rattle.key.specs.Key.{Held, unmarked, heldRun, cannot, Key, refusal, answers, text}
+use Rattle.key.specs.Lifting.{treeAfter, liftAnswers}
+use Rattle.key.specs.Call.{keyBytes, keySays}
+use Rattle.key.specs.declared.KeyAnswer.{KeyAnswer}
+
+-- ---- what follows the lifts, which leave the tree u
+-- "`HELD` 0 first count", of a run
+abbrev pub heldAs : Run → Held
+heldAs run = heldRun (run .first) (run .count)
+
+-- of the holder's run in the gathered tree; "`HELD` 19" where there is none
+abbrev pub heldIn : List ℕ → Option Tree → Held
+heldIn marks none = cannot
+heldIn marks (some g) = heldAs (runOf (some g) (holderOf marks g))
+
+-- "with marks `HELD` .."
+abbrev pub heldBy : Tree → List ℕ → Held
+heldBy u [] = unmarked
+heldBy u (m ∷ marks) = heldIn (m ∷ marks) (gatheredBy u (m ∷ marks))
+
+-- "then the code of the tree after the lifts, with marks of the gathered one"
+abbrev pub codeBy : Tree → List ℕ → List Instruction
+codeBy u [] = code u 0
+codeBy u (m ∷ marks) = codeOfList (gatheredBy u (m ∷ marks))
+
+-- ---- the whole
+-- of an accepted sheet, by the tree that its entries are (and they are one)
+abbrev pub keyIn : ReadingState → Option Tree → Key
+keyIn st none = refusal 0 0
+keyIn st (some t) =
+    let u = treeAfter t (st .lifts) in
+    answers (liftAnswers t (st .lifts)) (heldBy u (st .marks)) (codeBy u (st .marks))
+
+-- by what reading comes to
+abbrev pub keyFor : ReadingOutcome → Key
+keyFor (refused number line) = refusal number line
+keyFor (accepted st) = keyIn st (treeOf (st .entries))
+
+-- the key's bytes
+unfoldable pub keyBy : ReadingOutcome → List ℕ
+keyBy o = text (keyFor o)
+
+abbrev pub keyOf : List ℕ → List ℕ
+keyOf sheet = keyBy (reading sheet)
+
+-- where the buffer is long enough, it is these that are written
+pub record KeyBy (sheet out : List ℕ) (r : KeyAnswer) (out′ : List ℕ) : Type 0 where
+  pub by : keyBytes ≤ length out → (keySays r ≡ some (done (length (keyOf sheet) ∷ []))) × (out′ ≡ over (keyOf sheet) out)
