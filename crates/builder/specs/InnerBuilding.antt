@@ -1,18 +1,23 @@
--- The builder: a small tree for a part of a truth table. No caller has to believe any of this: what a built tree selects, over which
--- groups it is and how large, is proved in proofs/BuildingLaws.antt.
+-- The builder: a small tree for a table. No caller has to believe any of this: what a built tree selects, over which groups it is,
+-- how large, and where the holder is, is proved in proofs/, whichever steps are chosen.
 use mathlib.Core.Path.{_≡_}
-use mathlib.Core.Bool.{Bool, true, false, not, cond, Bool·beq, _&&_}
+use mathlib.Core.Bool.{Bool, true, false, cond, _&&_, _||_}
 use mathlib.Core.List.{List, [], _∷_, _++_}
 use mathlib.Core.Option.{Option, some, none}
-use Prim.Native.Nat.{ℕ, zero, suc, _+_, _-_, _*_, _^_, _<_, _≤_}
+use Prim.Native.Nat.{ℕ, zero, suc, _+_, _-_, _*_, _^_}
 use lib.Dec.{eqb}
-use lib.ListN.{length, drop}
+use lib.ListN.{length, getD, take, drop}
 use Rattle.tree.specs.Tree.{Operator, union, difference, sign, Tree, leaf, node, isGroup, postfix, size, isIn}
 use Rattle.tree.specs.Pass.{Entry, group, operator, neither, entryOf}
 use Rattle.tree.specs.InnerWriting.{Wrote}
-use Rattle.table.specs.InnerTable.{rowCount, rowsOf}
-use Rattle.builder.specs.declared.Form.{Form}
-use Rattle.builder.specs.declared.Form.the-variants.{Lower, Less, JoinedLess, Plus, ReducedPlus}
+use Rattle.forms.specs.InnerForms.{Table, tableOf, half, rowAt, firstPart, secondPart, usable, Holds}
+use Rattle.forms.specs.declared.Form.{Form}
+use Rattle.forms.specs.declared.Form.the-variants.{Drop, Less, Plus, ReducedPlus, JoinedLess, LessOutside, ReducedUnion, JoinedDifference}
+use Rattle.steps.specs.InnerSteps.{canHold, firstHolder, secondHolder, stepAt, choose, Sized}
+use Rattle.steps.specs.declared.Holder.{Holder}
+use Rattle.steps.specs.declared.Holder.the-variants.{Absent, Dropped, Held}
+use Rattle.steps.specs.declared.Step.{Step}
+use Rattle.builder.specs.declared.Turn.{Turn}
 
 -- ---- no tree or a tree: its list, and its nodes
 abbrev pub postfixOptional : Option Tree → List ℕ
@@ -42,84 +47,178 @@ leafOf neither = none
 abbrev pub single : ℕ → Option Tree
 single x = leafOf (entryOf x)
 
--- ---- one group more: x joined to what is selected outside it (lower) and to what is selected inside it (upper)
-abbrev pub formed : Form → ℕ → Option Tree → Option Tree → Option Tree
-formed Lower x lower upper = lower
-formed Less x lower upper = join difference lower (join difference (single x) upper)
-formed JoinedLess x lower upper = join difference (join union lower (single x)) (join difference (single x) upper)
-formed Plus x lower upper = join union lower (join difference (single x) upper)
-formed ReducedPlus x lower upper = join union (join difference lower (single x)) (join difference (single x) upper)
+-- ---- the forms' trees, of the variable's tree x and the parts' a and b: a left operand, a right one, and the operator between
+abbrev pub leftTree : Form → Option Tree → Option Tree → Option Tree
+leftTree Drop x a = a
+leftTree Less x a = a
+leftTree Plus x a = a
+leftTree ReducedPlus x a = join difference a x
+leftTree JoinedLess x a = join union a x
+leftTree LessOutside x a = a
+leftTree ReducedUnion x a = join difference a x
+leftTree JoinedDifference x a = join union a x
 
-abbrev pub differs : Bool → Bool → Bool
-differs a b = not (Bool·beq a b)
+abbrev pub rightTree : Form → Option Tree → Option Tree → Option Tree
+rightTree Drop x b = none
+rightTree Less x b = join difference x b
+rightTree Plus x b = join difference x b
+rightTree ReducedPlus x b = join difference x b
+rightTree JoinedLess x b = join difference x b
+rightTree LessOutside x b = join difference b x
+rightTree ReducedUnion x b = b
+rightTree JoinedDifference x b = b
 
--- of n rows from a on and n rows from b on, `step` apart: where the first differs from `base`, so does the second
-unfoldable pub within : (ℕ → Bool) → Bool → ℕ → ℕ → ℕ → ℕ → Bool
-within T base a b step zero = true
-within T base a b step (suc n) =
-    let r = within T base (a + step) (b + step) step n in
-    cond (differs (T a) base && Bool·beq (T b) base) false r
-
--- the form for the lower half's n rows from `off` on and the upper half's from `one` on, by where they differ from the first.
--- Where the upper half's first row differs, its tree is that of its complement.
-abbrev pub formOf : (ℕ → Bool) → ℕ → ℕ → ℕ → ℕ → Form
-formOf T off one step n =
-    cond (differs (T one) (T off)) (cond (within T (T off) off one step n) Plus ReducedPlus)
-    (cond (within T (T off) one off step n) (cond (within T (T off) off one step n) Lower Less) JoinedLess)
-
--- a tree that selects where the table T at the row off + step * rowOf v gs differs from its value at `off`
-unfoldable pub expand : (ℕ → Bool) → ℕ → ℕ → List ℕ → Option Tree
-expand T off step [] = none
-expand T off step (x ∷ gs) =
-    formed (formOf T off (off + step) (step + step) (2 ^ length gs)) x (expand T off (step + step) gs) (expand T (off + step) (step + step) gs)
-
--- as many nodes as an expansion over k groups has at most
-unfoldable pub mostExpanded : ℕ → ℕ
-mostExpanded zero = 0
-mostExpanded (suc k) = mostExpanded k + mostExpanded k + 5
-
--- ---- what the code writes for a form: before the upper half's tree, and after it
-abbrev pub opening : Form → Bool → ℕ → List ℕ
-opening Lower empty x = []
-opening Less empty x = cond empty [] (x ∷ [])
-opening JoinedLess empty x = cond empty (x ∷ x ∷ []) (x ∷ sign union ∷ x ∷ [])
-opening Plus empty x = x ∷ []
-opening ReducedPlus empty x = cond empty (x ∷ []) (x ∷ sign difference ∷ x ∷ [])
-
--- the operator that a form ends with
 abbrev pub outer : Form → Operator
-outer Lower = union
+outer Drop = union
 outer Less = difference
-outer JoinedLess = difference
 outer Plus = union
 outer ReducedPlus = union
+outer JoinedLess = difference
+outer LessOutside = difference
+outer ReducedUnion = union
+outer JoinedDifference = difference
 
+abbrev pub formed : Form → Option Tree → Option Tree → Option Tree → Option Tree
+formed form x a b = join (outer form) (leftTree form x a) (rightTree form x b)
+
+-- ---- the tree of a table over variables: groups, and 0 for the holder h
+abbrev pub variableTree : Option Tree → ℕ → Option Tree
+variableTree h x = cond (eqb x 0) h (single x)
+
+-- the variables without the one at index v
+abbrev pub without : ℕ → List ℕ → List ℕ
+without v gs = take v gs ++ drop (v + 1) gs
+
+-- `choice` says which candidate to take as the next step; one that is not allowed is not taken (`stepAt`)
+unfoldable pub build : (Holder → Table → ℕ → ℕ) → ℕ → Holder → Table → List ℕ → Option Tree → Option Tree
+build choice zero m t gs h = none
+build choice (suc n) m t gs h =
+    let s = stepAt m t n (choice m t n) in
+    formed (s .form) (variableTree h (getD gs (s .variable) 0))
+    (build choice n (firstHolder (s .plan)) (firstPart (s .form) t (2 ^ s .variable)) (without (s .variable) gs) h)
+    (build choice n (secondHolder (s .plan)) (secondPart (s .form) t (2 ^ s .variable)) (without (s .variable) gs) h)
+
+-- ---- how large
+-- as many nodes as a tree over k groups has at most
+unfoldable pub mostBuilt : ℕ → ℕ
+mostBuilt zero = 0
+mostBuilt (suc k) = mostBuilt k + mostBuilt k + 5
+
+-- the same of a table over k variables, with a holder of z nodes
+abbrev pub mostFor : Holder → ℕ → ℕ → ℕ
+mostFor Absent k z = mostBuilt k
+mostFor Dropped k z = mostBuilt (k - 1)
+mostFor Held k z = z + 2 * mostBuilt (k - 1) + 2
+
+-- the nodes of a form's tree at most, by those of x, a and b
+abbrev pub mostFormed : Form → ℕ → ℕ → ℕ → ℕ
+mostFormed Drop x a b = a
+mostFormed Less x a b = a + x + b + 2
+mostFormed Plus x a b = a + x + b + 2
+mostFormed ReducedPlus x a b = a + (x + x) + b + 3
+mostFormed JoinedLess x a b = a + (x + x) + b + 3
+mostFormed LessOutside x a b = a + x + b + 2
+mostFormed ReducedUnion x a b = a + x + b + 2
+mostFormed JoinedDifference x a b = a + x + b + 2
+
+-- ---- what is written for a form, where xs is the list of the variable's tree
 -- an operator whose operands stand from `from` to `middle` and from there to `to`: none where one of them is empty
 abbrev pub between : ℕ → ℕ → ℕ → ℕ → List ℕ
 between from middle to sign = cond (eqb from middle) [] (cond (eqb middle to) [] (sign ∷ []))
 
--- what is written after the upper half's tree, which stands from `upper` to `to` behind its group
-abbrev pub closing : Form → ℕ → ℕ → ℕ → List ℕ
-closing form from upper to =
-    between (upper - 1) upper to (sign difference)
-    ++ between from (upper - 1) (to + length (between (upper - 1) upper to (sign difference))) (sign (outer form))
+-- the variable's list, where the holder's is hs
+abbrev pub variableList : List ℕ → ℕ → List ℕ
+variableList hs x = cond (eqb x 0) hs (x ∷ [])
+
+-- after a tree, or where there is none (`empty`): what joins the variable's tree to it by the operator of this sign
+abbrev pub joinedBy : ℕ → Bool → List ℕ → List ℕ
+joinedBy s empty xs = cond empty (cond (eqb s (sign difference)) [] xs) (xs ++ (s ∷ []))
+
+-- the operator by which x is joined to a; 0 where the left operand is a alone
+abbrev pub leftSign : Form → ℕ
+leftSign Drop = 0
+leftSign Less = 0
+leftSign Plus = 0
+leftSign ReducedPlus = sign difference
+leftSign JoinedLess = sign union
+leftSign LessOutside = 0
+leftSign ReducedUnion = sign difference
+leftSign JoinedDifference = sign union
+
+-- the right operand: 0 there is none; 1 x without b; 2 b without x; 3 b alone
+abbrev pub rightKind : Form → ℕ
+rightKind Drop = 0
+rightKind Less = 1
+rightKind Plus = 1
+rightKind ReducedPlus = 1
+rightKind JoinedLess = 1
+rightKind LessOutside = 2
+rightKind ReducedUnion = 3
+rightKind JoinedDifference = 3
+
+-- after a: what makes it the left operand
+abbrev pub leftWritten : Form → Bool → List ℕ → List ℕ
+leftWritten form empty xs = cond (eqb (leftSign form) 0) [] (joinedBy (leftSign form) empty xs)
+
+-- whether the tree ends with the left operand, which may be empty
+abbrev pub endsThere : Form → Bool → Bool
+endsThere form empty = eqb (rightKind form) 0 || (empty && eqb (sign (outer form)) (sign difference))
+
+-- before b, which stands from `middle` to `to`, and after it: what makes it the right operand, which stands from `left` on
+abbrev pub beforeWritten : Form → List ℕ → List ℕ
+beforeWritten form xs = cond (eqb (rightKind form) 1) xs []
+
+abbrev pub afterWritten : Form → ℕ → ℕ → ℕ → List ℕ → List ℕ
+afterWritten form left middle to xs =
+    cond (eqb (rightKind form) 1) (between left middle to (sign difference))
+    (cond (eqb (rightKind form) 2) (joinedBy (sign difference) (eqb middle to) xs) [])
 
 -- ---- what the functions say of each other
--- `count` rows from a on and as many from b on, `step` apart, are rows of the table
-pub record RowPairs (a b step count : ℕ) : Type 0 where
-  pub small : step < 2 * rowCount
-  pub first : a + step * count < rowCount + step
-  pub second : b + step * count < rowCount + step
+-- the variables: groups, and where the holder is one of them, it is the last
+abbrev pub Variables : Holder → List ℕ → Type 0
+Variables Absent gs = (g : ℕ) → isIn gs g ≡ true → isGroup g ≡ true
+Variables Dropped gs = (us : List ℕ) × (gs ≡ us ++ (0 ∷ [])) × ((g : ℕ) → isIn us g ≡ true → isGroup g ≡ true)
+Variables Held gs = (us : List ℕ) × (gs ≡ us ++ (0 ∷ [])) × ((g : ℕ) → isIn us g ≡ true → isGroup g ≡ true)
 
--- the rows off, off + step, .. of the groups from j on are rows of the table
-pub record Segment (gs : List ℕ) (j off step rows : ℕ) : Type 0 where
-  pub within : j ≤ length gs
-  pub count : rows ≡ 2 ^ length (drop j gs)
-  pub inside : off + step * rows < rowCount + step
-  pub small : step < 2 * rowCount
-  pub groups : (g : ℕ) → isIn (drop j gs) g ≡ true → isGroup g ≡ true
+-- the holder may be dropped, or may stand in the tree
+abbrev pub HolderReady : Holder → Table → Type 0
+HolderReady Absent t = Unit {0}
+HolderReady Dropped t = usable Drop t (half t) ≡ true
+HolderReady Held t = canHold t ≡ true
 
--- their tree was written
-pub record Emitted (t : List Bool) (off step : ℕ) (gs : List ℕ) (out : List ℕ) (at : ℕ) (out′ : List ℕ) (next : ℕ) : Type 0 where
-  pub wrote : Wrote out at out′ next (postfixOptional (expand (rowsOf t) off step gs))
-  pub most : next ≤ at + mostExpanded (length gs)
+-- a table over these variables that a tree is built for; no tree selects anything at row 0
+pub record Ready (m : Holder) (t : Table) (gs : List ℕ) : Type 0 where
+  pub sized : Sized (t .on) (t .off) (length gs)
+  pub first : rowAt t 0 .on ≡ false
+  pub consistent : (i : ℕ) → (rowAt t i .on && rowAt t i .off) ≡ false
+  pub variables : Variables m gs
+  pub holder : HolderReady m t
+
+-- the step that is taken at a table over n variables and one more
+abbrev pub stepOf : Holder → Table → ℕ → Step
+stepOf m t n = stepAt m t n (choose m t n)
+
+-- its form and its variable, the other variables, and the rows of a and b and what becomes of the holder there
+pub record Turned (m : Holder) (t : Table) (gs : List ℕ) (n : ℕ) (r : Turn) : Type 0 where
+  pub form : r .form ≡ stepOf m t n .form
+  pub x : r .x ≡ getD gs (stepOf m t n .variable) 0
+  pub rest : take n (r .rest) ≡ without (stepOf m t n .variable) gs
+  pub a : Holds (r .a) (half t) (firstPart (stepOf m t n .form) t (2 ^ stepOf m t n .variable))
+  pub b : Holds (r .b) (half t) (secondPart (stepOf m t n .form) t (2 ^ stepOf m t n .variable))
+  pub ma : r .ma ≡ firstHolder (stepOf m t n .plan)
+  pub mb : r .mb ≡ secondHolder (stepOf m t n .plan)
+
+-- the holder has a tree where it is a variable
+abbrev pub HolderTree : Holder → Option Tree → Type 0
+HolderTree Absent h = Unit {0}
+HolderTree Dropped h = (t : Tree) × (h ≡ some t)
+HolderTree Held h = (t : Tree) × (h ≡ some t)
+
+-- the holder's list hs is that of such a tree
+abbrev pub Holding : Holder → List ℕ → Type 0
+Holding m hs = (h : Option Tree) × (hs ≡ postfixOptional h) × HolderTree m h
+
+-- the tree of a table was written, whichever tree the holder's list is of
+pub record Built (m : Holder) (on off : List Bool) (gs hs out : List ℕ) (at : ℕ) (out′ : List ℕ) (next : ℕ) : Type 0 where
+  pub wrote : (h : Option Tree) → hs ≡ postfixOptional h → HolderTree m h
+      → Wrote out at out′ next (postfixOptional (build choose (length gs) m (tableOf on off) gs h))

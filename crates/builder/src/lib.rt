@@ -1,32 +1,28 @@
-// Small trees for truth tables: the expansion of a table, one group at a time.
+// Small trees for tables whose rows are 0, 1 or free: one variable at a time, by the step that `steps` takes.
 ghost use mathlib.Core.Path.{_≡_};
 ghost use mathlib.Core.List.{[], _∷_};
-ghost use Prim.Native.Nat.{_+_, _<_, _≤_};
+ghost use Prim.Native.Nat.{suc, _+_, _-_, _<_, _≤_};
 ghost use lib.Dec.{eqb};
-ghost use lib.ListN.{length, drop};
-ghost use Rattle.tree.specs.Tree.{sign};
+ghost use lib.ListN.{length, take};
+ghost use Rattle.tree.specs.Tree.{sign, mostGroups};
 ghost use Rattle.tree.specs.InnerWriting.{Wrote};
-ghost use Rattle.table.specs.InnerTable.{rowCount, rowsOf};
-ghost use Rattle.builder.specs.InnerBuilding.{within, formOf, opening, outer, closing, between, mostExpanded, RowPairs, Segment, Emitted};
-use table::ROWS;
+ghost use Rattle.forms.specs.InnerForms.{tableOf};
+ghost use Rattle.builder.specs.InnerBuilding.{outer, without, mostFor, Ready, Turned, Holding, Built, between, variableList, joinedBy, leftSign, rightKind, leftWritten, endsThere, beforeWritten, afterWritten};
+use forms::Form;
+use forms::Half;
+use steps::Holder;
+use tree::MOST_GROUPS;
 
 // ---- writing
 
-// Writes two or three numbers at an index, and returns the index after them.
-fn put2(out: &mut [u16], at: usize, x: u16, y: u16) -> usize
-    requires { ⌜ at + 2 ≤ length (now out) ⌝ }
-    ensures { λ r. ⌜ Wrote (now (out .entry)) at (now (out .exit)) r (x ∷ y ∷ []) ⌝ }
-{
-    let a = tree::write_one(x, out, at);
-    tree::write_one(y, out, a)
-}
-
+// Writes three numbers at an index, and returns the index after them.
 pub fn put3(out: &mut [u16], at: usize, x: u16, y: u16, z: u16) -> usize
     requires { ⌜ at + 3 ≤ length (now out) ⌝ }
     ensures { λ r. ⌜ Wrote (now (out .entry)) at (now (out .exit)) r (x ∷ y ∷ z ∷ []) ⌝ }
 {
-    let a = put2(out, at, x, y);
-    tree::write_one(z, out, a)
+    let a = tree::write_one(x, out, at);
+    let b = tree::write_one(y, out, a);
+    tree::write_one(z, out, b)
 }
 
 // Writes an operator after its operands, which stand from `from` and from `middle` on; nothing where one of them is empty.
@@ -43,146 +39,236 @@ pub fn operate(out: &mut [u16], from: usize, middle: usize, to: usize, operator:
     tree::write_one(operator, out, to)
 }
 
-// ---- the expansion
-
-// How a group x is joined to what its lower half L selects outside x and its upper half H inside x:
-// L; L - (x - H); (L U x) - (x - H); L U (x - H'); (L - x) U (x - H') with H' the complement of H.
-pub enum Form {
-    Lower,
-    Less,
-    JoinedLess,
-    Plus,
-    ReducedPlus,
-}
-
-// Whether, of `count` rows from `a` on and as many from `b` on, the second differs from `base` wherever the first does.
-fn within(t: &[bool; ROWS], base: bool, a: usize, b: usize, step: usize, count: usize) -> bool
-    requires { ⌜ RowPairs a b step count ⌝ }
-    ensures { λ r. ⌜ r ≡ within (rowsOf (now (t .entry))) base a b step count ⌝ }
+// Writes a variable's tree: the holder's, whose list is `holder`, where x is 0, else the group x.
+fn write_leaf(x: u16, holder: &[u16], out: &mut [u16], at: usize) -> usize
+    requires { ⌜ at + length (variableList (now holder) x) ≤ length (now out) ⌝ }
+    ensures { λ r. ⌜ Wrote (now (out .entry)) at (now (out .exit)) r (variableList (now (holder .entry)) x) ⌝ }
 {
-    let mut i = a;
-    let mut j = b;
-    let mut left = count;
-    while 0 < left {
-        let x = t[i];
-        let y = t[j];
-        if (x != base) & (y == base) {
-            return false;
-        }
-        i += step;
-        j += step;
-        left -= 1;
+    if x == 0 {
+        return tree::copy(holder, out, at);
     }
-    true
+    tree::write_one(x, out, at)
 }
 
-// The form for a group, by its lower half's rows from `off` on and its upper half's from `one` on.
-fn plan(t: &[bool; ROWS], off: usize, one: usize, step: usize, count: usize) -> Form
-    requires { ⌜ RowPairs off one step count ⌝ }
-    requires { ⌜ (off < rowCount) × (one < rowCount) ⌝ }
-    ensures { λ r. ⌜ r ≡ formOf (rowsOf (now (t .entry))) off one step count ⌝ }
+// Joins a variable's tree to the one that stands from `from` to `at`, and may be empty.
+fn write_joined(
+    operator: u16,
+    x: u16,
+    holder: &[u16],
+    out: &mut [u16],
+    from: usize,
+    at: usize,
+) -> usize
+    requires { ⌜ at + length (joinedBy operator (eqb from at) (variableList (now holder) x)) ≤ length (now out) ⌝ }
+    ensures { λ r. ⌜ Wrote (now (out .entry)) at (now (out .exit)) r (joinedBy operator (eqb from at) (variableList (now (holder .entry)) x)) ⌝ }
 {
-    let base = t[off];
-    let first = t[one];
-    let up = within(t, base, off, one, step, count);
-    if first != base {
-        if up {
-            return Form::Plus;
+    if from == at {
+        if operator == tree::DIFFERENCE {
+            return at;
         }
-        return Form::ReducedPlus;
+        return write_leaf(x, holder, out, at);
     }
-    let down = within(t, base, one, off, step, count);
-    if down {
-        if up {
-            return Form::Lower;
-        }
-        return Form::Less;
-    }
-    Form::JoinedLess
+    let next = write_leaf(x, holder, out, at);
+    tree::write_one(operator, out, next)
 }
 
-// Writes what a form has between the lower half, which stands from `from` to `at`, and the upper half.
-fn write_opening(out: &mut [u16], from: usize, at: usize, x: u16, form: Form) -> usize
-    requires { ⌜ at + 3 ≤ length (now out) ⌝ }
-    ensures { λ r. ⌜ Wrote (now (out .entry)) at (now (out .exit)) r (opening form (eqb from at) x) ⌝ }
-{
-    match form {
-        Form::Lower => at,
-        Form::Less => {
-            if from == at {
-                return at;
-            }
-            tree::write_one(x, out, at)
-        }
-        Form::JoinedLess => {
-            if from == at {
-                return put2(out, at, x, x);
-            }
-            put3(out, at, x, tree::UNION, x)
-        }
-        Form::Plus => tree::write_one(x, out, at),
-        Form::ReducedPlus => {
-            if from == at {
-                return tree::write_one(x, out, at);
-            }
-            put3(out, at, x, tree::DIFFERENCE, x)
-        }
-    }
-}
+// ---- the forms
 
-// The operator that a form ends with.
+// The operator between a form's two operands.
 fn outer(form: Form) -> u16
     ensures { λ r. ⌜ r ≡ sign (outer form) ⌝ }
 {
     match form {
-        Form::Lower => tree::UNION,
+        Form::Drop => tree::UNION,
         Form::Less => tree::DIFFERENCE,
-        Form::JoinedLess => tree::DIFFERENCE,
         Form::Plus => tree::UNION,
         Form::ReducedPlus => tree::UNION,
+        Form::JoinedLess => tree::DIFFERENCE,
+        Form::LessOutside => tree::DIFFERENCE,
+        Form::ReducedUnion => tree::UNION,
+        Form::JoinedDifference => tree::DIFFERENCE,
     }
 }
 
-// Writes what a form has after the upper half, which stands from `upper` to `to` behind its group.
-fn write_closing(out: &mut [u16], from: usize, upper: usize, to: usize, form: Form) -> usize
-    requires { ⌜ (1 ≤ upper) × (to + 2 ≤ length (now out)) ⌝ }
-    ensures { λ r. ⌜ Wrote (now (out .entry)) to (now (out .exit)) r (closing form from upper to) ⌝ }
+// The operator by which x is joined to a; 0 where the left operand is a alone.
+fn left_sign(form: Form) -> u16
+    ensures { λ r. ⌜ r ≡ leftSign form ⌝ }
 {
-    let group = upper - 1;
-    let inner = operate(out, group, upper, to, tree::DIFFERENCE);
-    let last = outer(form);
-    operate(out, from, group, inner, last)
+    match form {
+        Form::Drop => 0,
+        Form::Less => 0,
+        Form::Plus => 0,
+        Form::ReducedPlus => tree::DIFFERENCE,
+        Form::JoinedLess => tree::UNION,
+        Form::LessOutside => 0,
+        Form::ReducedUnion => tree::DIFFERENCE,
+        Form::JoinedDifference => tree::UNION,
+    }
 }
 
-// Writes the tree of the rows off, off + step, .. over the groups from j on.
-pub fn emit(
-    t: &[bool; ROWS],
-    off: usize,
-    step: usize,
-    rows: usize,
+// The right operand: 0 there is none; 1 x without b; 2 b without x; 3 b alone.
+fn right_kind(form: Form) -> u8
+    ensures { λ r. ⌜ r ≡ rightKind form ⌝ }
+{
+    match form {
+        Form::Drop => 0,
+        Form::Less => 1,
+        Form::Plus => 1,
+        Form::ReducedPlus => 1,
+        Form::JoinedLess => 1,
+        Form::LessOutside => 2,
+        Form::ReducedUnion => 3,
+        Form::JoinedDifference => 3,
+    }
+}
+
+// Makes a, which stands from `from` to `at`, the left operand.
+fn write_left(form: Form, x: u16, holder: &[u16], out: &mut [u16], from: usize, at: usize) -> usize
+    requires { ⌜ at + length (leftWritten form (eqb from at) (variableList (now holder) x)) ≤ length (now out) ⌝ }
+    ensures { λ r. ⌜ Wrote (now (out .entry)) at (now (out .exit)) r (leftWritten form (eqb from at) (variableList (now (holder .entry)) x)) ⌝ }
+{
+    let operator = left_sign(form);
+    if operator == 0 {
+        return at;
+    }
+    write_joined(operator, x, holder, out, from, at)
+}
+
+// Whether the tree ends with the left operand, which may be empty.
+fn ends_there(form: Form, empty: bool) -> bool
+    ensures { λ r. ⌜ r ≡ endsThere form empty ⌝ }
+{
+    let kind = right_kind(form);
+    let last = outer(form);
+    (kind == 0) | (empty & (last == tree::DIFFERENCE))
+}
+
+// Writes what the right operand has before b.
+fn write_before(form: Form, x: u16, holder: &[u16], out: &mut [u16], at: usize) -> usize
+    requires { ⌜ at + length (beforeWritten form (variableList (now holder) x)) ≤ length (now out) ⌝ }
+    ensures { λ r. ⌜ Wrote (now (out .entry)) at (now (out .exit)) r (beforeWritten form (variableList (now (holder .entry)) x)) ⌝ }
+{
+    let kind = right_kind(form);
+    if kind == 1 {
+        return write_leaf(x, holder, out, at);
+    }
+    at
+}
+
+// Makes b, which stands from `middle` to `to`, the right operand, which stands from `left` on.
+fn write_after(
+    form: Form,
+    x: u16,
+    holder: &[u16],
+    out: &mut [u16],
+    left: usize,
+    middle: usize,
+    to: usize,
+) -> usize
+    requires { ⌜ to + length (afterWritten form left middle to (variableList (now holder) x)) + 1 ≤ length (now out) ⌝ }
+    ensures { λ r. ⌜ Wrote (now (out .entry)) to (now (out .exit)) r (afterWritten form left middle to (variableList (now (holder .entry)) x)) ⌝ }
+{
+    let kind = right_kind(form);
+    if kind == 1 {
+        return operate(out, left, middle, to, tree::DIFFERENCE);
+    }
+    if kind == 2 {
+        return write_joined(tree::DIFFERENCE, x, holder, out, middle, to);
+    }
+    to
+}
+
+// ---- the variables
+
+// The variables without the one at index v.
+fn without(groups: &[u16], v: usize) -> [u16; MOST_GROUPS]
+    requires { ⌜ (v < length (now groups)) × (length (now groups) ≤ mostGroups) ⌝ }
+    ensures { λ r. ⌜ take (length (now (groups .entry)) - 1) r ≡ without v (now (groups .entry)) ⌝ }
+{
+    let mut rest = [0; MOST_GROUPS];
+    let next = tree::copy(&groups[..v], &mut rest, 0);
+    tree::copy(&groups[v + 1..], &mut rest, next);
+    rest
+}
+
+// ---- the tree of a table
+
+// A step at a table: its form, its variable x and the other variables, and the rows of a and b and what becomes of the holder there.
+struct Turn {
+    form: Form,
+    x: u16,
+    rest: [u16; MOST_GROUPS],
+    a: Half,
+    b: Half,
+    ma: Holder,
+    mb: Holder,
+}
+
+// The step that is taken at a table over n variables and one more.
+fn turn_of(on: &[bool], off: &[bool], m: Holder, groups: &[u16], n: usize) -> Turn
+    requires { ⌜ Ready m (tableOf (now on) (now off)) (now groups) × (length (now groups) ≡ suc n) ⌝ }
+    ensures { λ r. ⌜ Turned m (tableOf (now (on .entry)) (now (off .entry))) (now (groups .entry)) n r ⌝ }
+{
+    let step = steps::step_of(on, off, n, m);
+    let form = step.form;
+    let v = step.variable;
+    let plan = step.plan;
+    let power = forms::power(v);
+    let parts = forms::split(on, off, power, form);
+    let a = parts.first;
+    let b = parts.second;
+    Turn {
+        form,
+        x: groups[v],
+        rest: without(groups, v),
+        a,
+        b,
+        ma: steps::first_holder(plan),
+        mb: steps::second_holder(plan),
+    }
+}
+
+// Writes the tree of a table over the variables `groups`, where 0 stands for the holder, whose list is `holder`.
+pub fn build(
+    on: &[bool],
+    off: &[bool],
+    m: Holder,
     groups: &[u16],
-    j: usize,
+    holder: &[u16],
     out: &mut [u16],
     at: usize,
 ) -> usize
-    requires { ⌜ Segment (now groups) j off step rows ⌝ }
-    requires { ⌜ at + mostExpanded (length (drop j (now groups))) ≤ length (now out) ⌝ }
-    ensures { λ r. ⌜ Emitted (now (t .entry)) off step (drop j (now (groups .entry))) (now (out .entry)) at (now (out .exit)) r ⌝ }
+    requires { ⌜ Ready m (tableOf (now on) (now off)) (now groups) ⌝ }
+    requires { ⌜ Holding m (now holder) ⌝ }
+    requires { ⌜ at + mostFor m (length (now groups)) (length (now holder)) ≤ length (now out) ⌝ }
+    ensures { λ r. ⌜ Built m (now (on .entry)) (now (off .entry)) (now (groups .entry)) (now (holder .entry)) (now (out .entry)) at (now (out .exit)) r ⌝ }
 {
-    if j == groups.len() {
+    let k = groups.len();
+    if k == 0 {
         return at;
     }
-    let x = groups[j];
-    let next = j + 1;
-    let one = off + step;
-    let twice = step + step;
-    let half = rows / 2;
-    let form = plan(t, off, one, twice, half);
-    let lower = emit(t, off, twice, half, groups, next, out, at);
-    let upper = write_opening(out, at, lower, x, form);
-    if upper == lower {
-        return lower;
+    let n = k - 1;
+    let len = on.len() / 2;
+    let turn = turn_of(on, off, m, groups, n);
+    let form = turn.form;
+    let x = turn.x;
+    let gs = turn.rest;
+    let first = turn.a;
+    let a_on = first.on;
+    let a_off = first.off;
+    let ma = turn.ma;
+    let a = build(&a_on[..len], &a_off[..len], ma, &gs[..n], holder, out, at);
+    let left = write_left(form, x, holder, out, at, a);
+    let stops = ends_there(form, at == left);
+    if stops {
+        return left;
     }
-    let to = emit(t, one, twice, half, groups, next, out, upper);
-    write_closing(out, at, upper, to, form)
+    let mid = write_before(form, x, holder, out, left);
+    let second = turn.b;
+    let b_on = second.on;
+    let b_off = second.off;
+    let mb = turn.mb;
+    let b = build(&b_on[..len], &b_off[..len], mb, &gs[..n], holder, out, mid);
+    let right = write_after(form, x, holder, out, left, mid, b);
+    operate(out, at, left, right, outer(form))
 }

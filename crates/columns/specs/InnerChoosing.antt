@@ -1,18 +1,14 @@
 -- How the columns are chosen from a table, or refused, by two scans. `gather` proofs/ChoosingLaws.antt says what a choice means.
 use mathlib.Core.Bool.{Bool, cond, Bool·beq, _&&_, _||_}
-use Prim.Native.Nat.{ℕ, zero, suc, _+_, _-_, _%_}
+use Prim.Native.Nat.{ℕ, _+_, _-_, _%_}
 use lib.Dec.{ltb}
+use Rattle.forms.specs.InnerSearch.{firstFailing}
 use Rattle.columns.specs.declared.Choice.{Choice}
 use Rattle.columns.specs.declared.Choice.the-variants.{Never, Constant, Columns}
 
 -- whether the value at row i of columns of w rows is A ∪ (B ∩ h): by its column's rows `low` and `high`, and by the column at `start`
 abbrev pub agrees : (ℕ → Bool) → ℕ → ℕ → ℕ → ℕ → ℕ → Bool
 agrees T w low high start i = Bool·beq (T i) (T (i - i % w + low) || (T (i - i % w + high) && T (start + i % w)))
-
--- the first of k numbers from i on that fails the test; i + k if none does
-unfoldable pub firstFailing : (ℕ → Bool) → ℕ → ℕ → ℕ
-firstFailing f zero i = i
-firstFailing f (suc k) i = let r = firstFailing f k (suc i) in cond (f i) r i
 
 -- the first of `total` rows that does not agree; `total` if all do
 abbrev pub failing : (ℕ → Bool) → ℕ → ℕ → ℕ → ℕ → ℕ → ℕ

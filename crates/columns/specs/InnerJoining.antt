@@ -1,69 +1,56 @@
--- The gathered tree, by the rows `low` and `high` of each column and the column that starts at `start`.
--- With A the columns' values at `low`, B those at `high`, D = B − A and h the column, the tree is A ∪ (B ∩ h).
--- A tree for B or h is one for its complement where B is true at the first column, or h at its first row.
--- No caller has to believe any of this: that it is gathered and what it selects is proved in `gather` proofs/JoiningLaws.antt.
-use mathlib.Core.Bool.{Bool, not, cond, _&&_}
-use mathlib.Core.List.{List}
+-- The gathered tree, by the columns of a truth table over the marked groups and the others: w = 2 ^ marks rows make a column.
+-- No caller has to believe any of this: that it is gathered and what it selects is proved in `gather` proofs/.
+use mathlib.Core.Bool.{Bool, not, cond, Bool·beq}
+use mathlib.Core.List.{List, [], _∷_, _++_}
 use mathlib.Core.Option.{Option, none}
-use Prim.Native.Nat.{ℕ, _+_, _-_, _%_, _^_}
+use Prim.Native.Nat.{ℕ, suc, _+_, _-_, _*_, _^_}
+use lib.Dec.{ltb}
 use lib.ListN.{length, getD}
 use Rattle.tree.specs.Tree.{union, difference, Tree}
-use Rattle.builder.specs.InnerBuilding.{sizeOptional, join, single, expand}
+use Rattle.table.specs.InnerTable.{tabulate}
+use Rattle.forms.specs.InnerForms.{Table}
+use Rattle.steps.specs.InnerSteps.{choose}
+use Rattle.steps.specs.declared.Holder.the-variants.{Absent, Held}
+use Rattle.builder.specs.InnerBuilding.{join, single, build}
 use Rattle.columns.specs.declared.Choice.{Choice}
 use Rattle.columns.specs.declared.Choice.the-variants.{Never, Constant, Columns}
 
--- D as a table
-unfoldable pub varies : (ℕ → Bool) → ℕ → ℕ → ℕ → Bool
-varies T w low i = T i && not (T (i - i % w + low))
+-- a table of so many rows, none of them free
+abbrev pub exactTable : (ℕ → Bool) → ℕ → Table
+exactTable f count = record { on = tabulate f count 0; off = tabulate (λ i. not (f i)) count 0 }
+
+abbrev pub differs : Bool → Bool → Bool
+differs a b = not (Bool·beq a b)
 
 module _ (T : ℕ → Bool) (marks others : List ℕ) where
-  module _ (w low high start : ℕ) where
-    -- A ∪ (B − h), the column true at its first row
-    abbrev pub removedTree : Option Tree
-    removedTree = join union (expand T low w others) (join difference (expand T high w others) (expand T start 1 marks))
+  -- the first row of each column
+  abbrev pub firstRows : Table
+  firstRows = exactTable (λ r. T (2 ^ length marks * r)) (2 ^ length others)
 
-    abbrev pub removedHolder : ℕ
-    removedHolder = sizeOptional (expand T low w others) + sizeOptional (expand T high w others) + sizeOptional (expand T start 1 marks) - 1
+  -- the column at `start`, where it differs from its first row
+  abbrev pub columnTable : ℕ → Table
+  columnTable start = exactTable (λ j. differs (T (start + j)) (T start)) (2 ^ length marks)
 
-    -- A ∪ (h − B), B true at the first column
-    abbrev pub keptTree : Option Tree
-    keptTree = join union (expand T low w others) (join difference (expand T start 1 marks) (expand T high w others))
+  -- over the others and the holder: each column's first row where the holder selects nothing, and its row p where it does
+  abbrev pub heldRow : ℕ → ℕ → Bool
+  heldRow p i = T (cond (ltb i (2 ^ length others)) (2 ^ length marks * i) (2 ^ length marks * (i - 2 ^ length others) + p))
 
-    abbrev pub keptHolder : ℕ
-    keptHolder = sizeOptional (expand T low w others) + sizeOptional (expand T start 1 marks) - 1
+  abbrev pub heldTable : ℕ → Table
+  heldTable p = exactTable (heldRow p) (2 ^ suc (length others))
 
-    -- B − (D − h), both false there
-    abbrev pub nestedTree : Option Tree
-    nestedTree = join difference (expand T high w others) (join difference (expand (varies T w low) high w others) (expand T start 1 marks))
+  -- the holder: the column's tree
+  unfoldable pub holderTree : ℕ → Option Tree
+  holderTree start = build choose (length marks) Absent (columnTable start) marks none
 
-    abbrev pub nestedHolder : ℕ
-    nestedHolder = sizeOptional (expand T high w others) + sizeOptional (expand (varies T w low) high w others) + sizeOptional (expand T start 1 marks) - 1
-
-  -- the form for the column and for B
-  abbrev pub columnsTree : ℕ → ℕ → ℕ → Option Tree
-  columnsTree low high start =
-      cond (T start) (removedTree (2 ^ length marks) low high start)
-      (cond (T high) (keptTree (2 ^ length marks) low high start) (nestedTree (2 ^ length marks) low high start))
-
-  abbrev pub columnsHolder : ℕ → ℕ → ℕ → ℕ
-  columnsHolder low high start =
-      cond (T start) (removedHolder (2 ^ length marks) low high start)
-      (cond (T high) (keptHolder (2 ^ length marks) low high start) (nestedHolder (2 ^ length marks) low high start))
+  unfoldable pub columnsTree : ℕ → ℕ → Option Tree
+  columnsTree p start = build choose (suc (length others)) Held (heldTable p) (others ++ (0 ∷ [])) (holderTree start)
 
   -- all columns are constant: A ∪ (m − m) for a mark m
-  abbrev pub constantTree : Option Tree
-  constantTree = join union (expand T 0 (2 ^ length marks) others) (join difference (single (getD marks 0 0)) (single (getD marks 0 0)))
+  unfoldable pub constantTree : Option Tree
+  constantTree = join union (build choose (length others) Absent firstRows others none) (join difference (single (getD marks 0 0)) (single (getD marks 0 0)))
 
-  abbrev pub constantHolder : ℕ
-  constantHolder = sizeOptional (expand T 0 (2 ^ length marks) others) + 2
-
-  -- the tree for a choice, and its holder's position
+  -- the tree for a choice; of `low` and `high` one is 0, and the other is the row p
   abbrev pub treeFor : Choice → Option Tree
   treeFor Never = none
   treeFor Constant = constantTree
-  treeFor (Columns low high start) = columnsTree low high start
-
-  abbrev pub holderFor : Choice → ℕ
-  holderFor Never = 0
-  holderFor Constant = constantHolder
-  holderFor (Columns low high start) = columnsHolder low high start
+  treeFor (Columns low high start) = columnsTree (low + high) start

@@ -1,32 +1,24 @@
 // Which columns of a truth table to build a gathered tree by, if any, and the tree. In a column the marked groups vary and the
 // others are fixed; a table's rows are its columns one after the other.
 ghost use mathlib.Core.Path.{_≡_};
-ghost use Prim.Native.Nat.{ℕ, _+_, _-_, _*_, _%_, _^_, _<_, _≤_};
-ghost use lib.ListN.{length};
+ghost use mathlib.Core.List.{[], _∷_, _++_};
+ghost use Prim.Native.Nat.{_+_, _-_, _*_, _%_, _^_, _<_, _≤_};
+ghost use lib.Dec.{ltb};
+ghost use lib.ListN.{length, take};
+ghost use mathlib.Core.Bool.{cond};
 ghost use Rattle.table.specs.InnerTable.{rowCount, rowsOf};
 ghost use Rattle.tree.specs.Tree.{mostGroups};
-ghost use Rattle.builder.specs.InnerBuilding.{expand};
+ghost use Rattle.tree.specs.InnerWriting.{Wrote};
+ghost use Rattle.builder.specs.InnerBuilding.{mostFor, Ready, Holding};
 ghost use Rattle.columns.specs.InnerChoosing.{agrees, failing, settled, choice};
-ghost use Rattle.columns.specs.InnerJoining.{varies};
-ghost use Rattle.columns.specs.Inner.{Scanned, Room, Some, Ready, ConstantBuilt, RemovedBuilt, KeptBuilt, NestedBuilt, ColumnsBuilt};
-use builder::emit;
+ghost use Rattle.columns.specs.InnerJoining.{differs};
+ghost use Rattle.columns.specs.Inner.{Scanned, HasRows, tableFrom, BuiltFrom, constantList, columnsList, Room, ColumnsReady, ConstantReady};
+use builder::build;
 use builder::operate;
 use builder::put3;
+use steps::Holder;
 use table::ROWS;
-
-// 2 to the power k.
-pub fn power(k: usize) -> usize
-    requires { ⌜ k ≤ mostGroups ⌝ }
-    ensures { λ r. ⌜ r ≡ 2 ^ k ⌝ }
-{
-    let mut s: usize = 1;
-    let mut i = 0;
-    while i < k {
-        s = s + s;
-        i += 1;
-    }
-    s
-}
+use tree::MOST_GROUPS;
 
 // What the columns allow: no tree; the tree for constant columns; the tree by the columns' rows `low` and `high` and the
 // column that starts at row `start`.
@@ -110,10 +102,87 @@ pub fn choose(t: &[bool; ROWS], w: usize, total: usize) -> Choice
 
 // ---- the gathered tree
 
-// A tree's nodes, and its holder's position.
-pub struct Built {
-    pub nodes: usize,
-    pub holder: usize,
+// The rows of an exact table: those that are 1, and those that are 0.
+pub struct Rows {
+    pub on: [bool; ROWS],
+    pub off: [bool; ROWS],
+}
+
+// Where the rows from, from + step, .. of a truth table differ from `base`.
+fn rows_of(t: &[bool; ROWS], base: bool, from: usize, step: usize, count: usize) -> Rows
+    requires { ⌜ (1 ≤ step) × (from + step * count ≤ rowCount) ⌝ }
+    ensures { λ r. ⌜ HasRows r count (λ i. differs (rowsOf (now (t .entry)) (from + step * i)) base) ⌝ }
+{
+    let mut on = [false; ROWS];
+    let mut off = [false; ROWS];
+    let mut i = 0;
+    while i < count {
+        let x = t[from + step * i];
+        on[i] = x != base;
+        off[i] = x == base;
+        i += 1;
+    }
+    Rows { on, off }
+}
+
+// Row i of the table with the holder: of its first half the first row of column i, of its second half row p.
+fn held_place(i: usize, w: usize, columns: usize, p: usize) -> usize
+    requires { ⌜ (p < w) × (i < 2 * columns) × (w * columns ≤ rowCount) ⌝ }
+    ensures { λ r. ⌜ (r ≡ cond (ltb i columns) (w * i) (w * (i - columns) + p)) × (r < rowCount) ⌝ }
+{
+    if i < columns {
+        return w * i;
+    }
+    w * (i - columns) + p
+}
+
+// The table over the others and the holder.
+fn held_rows(t: &[bool; ROWS], w: usize, columns: usize, p: usize) -> Rows
+    requires { ⌜ (p < w) × (w * columns ≤ rowCount) × (2 * columns ≤ rowCount) ⌝ }
+    ensures { λ r. ⌜ HasRows r (2 * columns) (λ i. rowsOf (now (t .entry)) (cond (ltb i columns) (w * i) (w * (i - columns) + p))) ⌝ }
+{
+    let mut on = [false; ROWS];
+    let mut off = [false; ROWS];
+    let mut i = 0;
+    while i < 2 * columns {
+        let place = held_place(i, w, columns, p);
+        let x = t[place];
+        on[i] = x;
+        off[i] = !x;
+        i += 1;
+    }
+    Rows { on, off }
+}
+
+// The variables: the others, and 0 for the holder.
+fn with_holder(others: &[u16]) -> [u16; MOST_GROUPS]
+    requires { ⌜ length (now others) + 1 ≤ mostGroups ⌝ }
+    ensures { λ r. ⌜ take (length (now (others .entry)) + 1) r ≡ now (others .entry) ++ (0 ∷ []) ⌝ }
+{
+    let mut variables = [0; MOST_GROUPS];
+    let next = tree::copy(others, &mut variables, 0);
+    tree::write_one(0, &mut variables, next);
+    variables
+}
+
+// The tree for the first `count` rows, from the front of `out` on.
+fn build_by(
+    rows: Rows,
+    count: usize,
+    m: Holder,
+    groups: &[u16],
+    holder: &[u16],
+    out: &mut [u16],
+) -> usize
+    requires { ⌜ count ≡ 2 ^ length (now groups) ⌝ }
+    requires { ⌜ Ready m (tableFrom rows count) (now groups) ⌝ }
+    requires { ⌜ Holding m (now holder) ⌝ }
+    requires { ⌜ mostFor m (length (now groups)) (length (now holder)) ≤ length (now out) ⌝ }
+    ensures { λ r. ⌜ BuiltFrom m rows count (now (groups .entry)) (now (holder .entry)) (now (out .entry)) (now (out .exit)) r ⌝ }
+{
+    let on = rows.on;
+    let off = rows.off;
+    build(&on[..count], &off[..count], m, groups, holder, out, 0)
 }
 
 // All columns are constant: A U (m - m).
@@ -124,146 +193,49 @@ pub fn build_constant(
     w: usize,
     columns: usize,
     out: &mut [u16],
-) -> Built
-    requires { ⌜ Room (now marks) (now others) w columns 0 0 0 (length (now out)) ⌝ }
-    ensures { λ r. ⌜ ConstantBuilt (now (t .entry)) (now (marks .entry)) (now (others .entry)) (now (out .entry)) (now (out .exit)) r ⌝ }
+) -> usize
+    requires { ⌜ Room (now marks) (now others) w columns (length (now out)) ⌝ }
+    requires { ⌜ ConstantReady (rowsOf (now t)) (now marks) (now others) ⌝ }
+    ensures { λ r. ⌜ Wrote (now (out .entry)) 0 (now (out .exit)) r (constantList (now (t .entry)) (now (marks .entry)) (now (others .entry))) ⌝ }
 {
-    let a = emit(t, 0, w, columns, others, 0, out, 0);
+    let rows = rows_of(t, false, 0, w, columns);
+    let a = build_by(rows, columns, Holder::Absent, others, &others[..0], out);
     let m = marks[0];
     let h = put3(out, a, m, m, tree::DIFFERENCE);
-    let nodes = operate(out, 0, a, h, tree::UNION);
-    Built {
-        nodes,
-        holder: h - 1,
-    }
+    operate(out, 0, a, h, tree::UNION)
 }
 
-// A U (B - h), h the complement of the column.
-fn build_removed(
-    t: &[bool; ROWS],
-    marks: &[u16],
-    others: &[u16],
-    w: usize,
-    columns: usize,
-    low: usize,
-    high: usize,
-    start: usize,
-    out: &mut [u16],
-) -> Built
-    requires { ⌜ Room (now marks) (now others) w columns low high start (length (now out)) ⌝ }
-    requires { ⌜ Some (expand (rowsOf (now t)) high w (now others)) ⌝ }
-    ensures { λ r. ⌜ RemovedBuilt (now (t .entry)) (now (marks .entry)) (now (others .entry)) w low high start (now (out .entry)) (now (out .exit)) r ⌝ }
-{
-    let a = emit(t, low, w, columns, others, 0, out, 0);
-    let b = emit(t, high, w, columns, others, 0, out, a);
-    let h = emit(t, start, 1, w, marks, 0, out, b);
-    let inner = operate(out, a, b, h, tree::DIFFERENCE);
-    let nodes = operate(out, 0, a, inner, tree::UNION);
-    Built {
-        nodes,
-        holder: h - 1,
-    }
-}
+// As many nodes as a tree over eight groups has at most.
+const HOLDER_NODES: usize = 1275;
 
-// A U (h - B), B the complement of the columns that are not all false.
-fn build_kept(
-    t: &[bool; ROWS],
-    marks: &[u16],
-    others: &[u16],
-    w: usize,
-    columns: usize,
-    low: usize,
-    high: usize,
-    start: usize,
-    out: &mut [u16],
-) -> Built
-    requires { ⌜ Room (now marks) (now others) w columns low high start (length (now out)) ⌝ }
-    requires { ⌜ Some (expand (rowsOf (now t)) start 1 (now marks)) ⌝ }
-    ensures { λ r. ⌜ KeptBuilt (now (t .entry)) (now (marks .entry)) (now (others .entry)) w low high start (now (out .entry)) (now (out .exit)) r ⌝ }
-{
-    let a = emit(t, low, w, columns, others, 0, out, 0);
-    let h = emit(t, start, 1, w, marks, 0, out, a);
-    let b = emit(t, high, w, columns, others, 0, out, h);
-    let inner = operate(out, a, h, b, tree::DIFFERENCE);
-    let nodes = operate(out, 0, a, inner, tree::UNION);
-    Built {
-        nodes,
-        holder: h - 1,
-    }
-}
-
-// The columns that are not constant, at their rows: true at a row and false at its column's row `low`.
-fn varying(t: &[bool; ROWS], w: usize, low: usize) -> [bool; ROWS]
-    requires { ⌜ (0 < w) × (low < w) × ((n : ℕ) × (rowCount ≡ w * n)) ⌝ }
-    requires { ⌜ length (now t) ≤ rowCount ⌝ }
-    ensures { λ r. ⌜ ((i : ℕ) → rowsOf r i ≡ varies (rowsOf (now (t .entry))) w low i) ⌝ }
-{
-    let mut d = [false; ROWS];
-    let mut i = 0;
-    while i < ROWS {
-        let base = i - i % w;
-        let x = t[i];
-        let y = t[base + low];
-        d[i] = x & !y;
-        i += 1;
-    }
-    d
-}
-
-// B - (D - h), D the columns that are not constant.
-fn build_nested(
-    t: &[bool; ROWS],
-    marks: &[u16],
-    others: &[u16],
-    w: usize,
-    columns: usize,
-    low: usize,
-    high: usize,
-    start: usize,
-    out: &mut [u16],
-) -> Built
-    requires { ⌜ Room (now marks) (now others) w columns low high start (length (now out)) ⌝ }
-    requires { ⌜ Some (expand (rowsOf (now t)) high w (now others)) ⌝ }
-    requires { ⌜ Some (expand (varies (rowsOf (now t)) w low) high w (now others)) ⌝ }
-    requires { ⌜ length (now t) ≤ rowCount ⌝ }
-    ensures { λ r. ⌜ NestedBuilt (now (t .entry)) (now (marks .entry)) (now (others .entry)) w low high start (now (out .entry)) (now (out .exit)) r ⌝ }
-{
-    let d = varying(t, w, low);
-    let b = emit(t, high, w, columns, others, 0, out, 0);
-    let e = emit(&d, high, w, columns, others, 0, out, b);
-    let h = emit(t, start, 1, w, marks, 0, out, e);
-    let inner = operate(out, b, e, h, tree::DIFFERENCE);
-    let nodes = operate(out, 0, b, inner, tree::DIFFERENCE);
-    Built {
-        nodes,
-        holder: h - 1,
-    }
-}
-
-// The tree by the columns' rows `low` and `high` and the column at `start`.
+// The tree by the columns' first row and row p, and by the column at `start`, whose tree is the holder.
 pub fn build_columns(
     t: &[bool; ROWS],
     marks: &[u16],
     others: &[u16],
     w: usize,
     columns: usize,
-    low: usize,
-    high: usize,
+    p: usize,
     start: usize,
     out: &mut [u16],
-) -> Built
-    requires { ⌜ Room (now marks) (now others) w columns low high start (length (now out)) ⌝ }
-    requires { ⌜ Ready (rowsOf (now t)) (now marks) (now others) w low high start ⌝ }
-    requires { ⌜ length (now t) ≤ rowCount ⌝ }
-    ensures { λ r. ⌜ ColumnsBuilt (now (t .entry)) (now (marks .entry)) (now (others .entry)) low high start (now (out .entry)) (now (out .exit)) r ⌝ }
+) -> usize
+    requires { ⌜ Room (now marks) (now others) w columns (length (now out)) ⌝ }
+    requires { ⌜ ColumnsReady (rowsOf (now t)) (now marks) (now others) p start ⌝ }
+    ensures { λ r. ⌜ Wrote (now (out .entry)) 0 (now (out .exit)) r (columnsList (now (t .entry)) (now (marks .entry)) (now (others .entry)) p start) ⌝ }
 {
-    let held = t[start];
-    if held {
-        return build_removed(t, marks, others, w, columns, low, high, start, out);
-    }
-    let sometimes = t[high];
-    if sometimes {
-        return build_kept(t, marks, others, w, columns, low, high, start, out);
-    }
-    build_nested(t, marks, others, w, columns, low, high, start, out)
+    let mut holder = [0; HOLDER_NODES];
+    let base = t[start];
+    let column = rows_of(t, base, start, 1, w);
+    let nodes = build_by(column, w, Holder::Absent, marks, &marks[..0], &mut holder);
+    let variables = with_holder(others);
+    let count = others.len() + 1;
+    let rows = held_rows(t, w, columns, p);
+    build_by(
+        rows,
+        2 * columns,
+        Holder::Held,
+        &variables[..count],
+        &holder[..nodes],
+        out,
+    )
 }

@@ -1,35 +1,44 @@
 -- What a choice means. If every row agrees with A ∪ (B ∩ h), the tree built is equivalent and gathered; if a row does not, its
 -- column and the chosen one are different and neither is constant, which gives the five fillings.
-use mathlib.Core.Path.{_≡_, refl, sym, ap, subst, _∙_}
-use mathlib.Core.Bool.{Bool, true, false, not, cond, Bool·beq, _&&_, _||_, true≢false}
+use mathlib.Core.Path.{_≡_, refl, sym, ap, ap₂, subst, _∙_}
+use mathlib.Core.Bool.{Bool, true, false, not, cond, Bool·beq, _&&_, _||_, true≢false, false≢true}
 use mathlib.Core.Logic.{_⊎_, inl, inr}
-use mathlib.Core.List.{List, _++_}
-use mathlib.Core.Option.{Option, some}
-use Prim.Native.Nat.{ℕ, _+_, _-_, _*_, _/_, _%_, _^_, _<_, _≤_}
-use native.Mathlib.Nat.{mul-suc, mul-zero, mul-le-mul-left, mod-eq-of-lt, mod-lt, mod-le, mod-add-div, add-mul-mod-self-left}
+use mathlib.Core.List.{List, [], _∷_, _++_}
+use mathlib.Core.Option.{Option, some, none}
+use Prim.Native.Nat.{ℕ, suc, _+_, _-_, _*_, _/_, _%_, _^_, _<_, _≤_}
+use native.Mathlib.Nat.{mul-comm, div-lt-iff-lt-mul, mul-suc, mul-zero, mul-le-mul-left, mod-eq-of-lt, mod-lt, mod-le, mod-add-div, add-mul-mod-self-left}
 use native.Mathlib.Omega.{arith}
 use lib.Pow.{pow-pos}
-use lib.Dec.{ltb}
-use borrow.Author.Tests.{ltb-true, ltb-false}
-use lib.ListN.{length, getD}
-use Rattle.tree.specs.Tree.{Operator, union, difference, Tree, size, selects, Over, Equivalent, isIn}
-use Rattle.tree.proofs.TreeLaws.{in-left, in-right, selects-equivalent}
+use lib.Dec.{eqb, ltb}
+use borrow.Author.Tests.{eqb-true, ltb-true, ltb-false}
+use lib.ListN.{length, getD, length-append}
+use Rattle.tree.specs.Tree.{union, difference, Tree, leaf, node, isGroup, size, selects, Over, Equivalent, isIn, mostGroups}
+use Rattle.tree.proofs.TreeLaws.{or-false, is-in-append, or-cases, in-left, in-right, selects-equivalent}
 use Rattle.table.specs.InnerTable.{filling}
 use Rattle.table.proofs.TableLaws.{rowOf, Tabled, row-below, row-append, row-agree, row-filling, selects-row, value-zero}
-use Rattle.builder.proofs.BuildingLaws.{selectsOptional, OverOptional, join-over, join-size, single-over, single-size, beq-true, expand-over, expand-size}
-use Rattle.builder.specs.InnerBuilding.{sizeOptional, join, single, expand, mostExpanded}
-use Rattle.columns.proofs.BuildLaws.{Fails, first-fails, row-column, first-mark}
-use Rattle.columns.specs.InnerJoining.{varies, columnsTree, constantTree, treeFor, holderFor}
+use Rattle.forms.proofs.SearchLaws.{Fails, first-fails}
+use Rattle.steps.specs.InnerSteps.{choose, canHold}
+use Rattle.builder.specs.InnerBuilding.{sizeOptional, join, single, variableTree, build, mostBuilt}
+use Rattle.builder.proofs.JoinLaws.{selectsOptional, OverOptional, join-selects, join-over, single-leaf, single-over, group-holds}
+use Rattle.forms.proofs.TestLaws.{beq-true}
+use Rattle.builder.proofs.ReadyLaws.{Buildable, variable-in}
+use Rattle.builder.proofs.BuildLaws.{group-over, build-over, build-some}
+use Rattle.columns.specs.InnerJoining.{differs, columnTable, heldTable, firstRows, holderTree, columnsTree, constantTree, treeFor}
+use Rattle.steps.specs.declared.Holder.the-variants.{Absent, Held}
 use Rattle.columns.specs.InnerChoosing.{agrees, failing, settled, chosenAt, choice}
-use Rattle.columns.specs.Inner.{ReadyFor}
 use Rattle.columns.specs.declared.Choice.{Choice}
 use Rattle.columns.specs.declared.Choice.the-variants.{Never, Constant, Columns}
 use Rattle.gather.specs.Gathering.{Gathered}
 use Rattle.gather.proofs.Criterion.{mixed, FiveFillings}
 use Rattle.gather.specs.Inner.{MarkedParts}
-use Rattle.gather.proofs.JoiningLaws.{columns-selects, constant-selects, columns-gathered, columns-ready, constant-gathered}
+use Rattle.gather.proofs.GatheringLaws.{unmarked, gathered-whole}
+use Rattle.gather.proofs.HeldLaws.{GatheredSome, Some, union-not, join-right, Others, plain-over, held-gathered}
+use Rattle.gather.proofs.JoiningLaws.{plain-buildable, plain-selects, plain-some-on, falls-held, rises-held, held-buildable, held-selects}
 
 -- ---- rows of columns of w rows
+row-column : (w n i : ℕ) → 0 < w → i < w * n → i / w < n
+row-column w n i pos h = div-lt-iff-lt-mul {k = w} {x = i} {y = n} pos .1 (rw (mul-comm n w) h)
+
 place-below : (w k p n : ℕ) → p < w → k < n → p + w * k < w * n
 place-below w k p n h l = let e = mul-le-mul-left w l in omega (arith, mul-suc w k)
 
@@ -48,20 +57,66 @@ pub record Chosen (Ta : ℕ → Bool) (ms us : List ℕ) (low high start : ℕ) 
   pub low-value : Ta (start + low) ≡ false
   pub high-value : Ta (start + high) ≡ true
 
+-- the tables that its trees are built for
+pub record ColumnTables (Ta : ℕ → Bool) (ms us : List ℕ) (p start : ℕ) : Type 0 where
+  pub row : p < 2 ^ length ms
+  pub inside : start + 2 ^ length ms ≤ 2 ^ length ms * 2 ^ length us
+  pub column : Buildable Absent (columnTable Ta ms us start) ms
+  pub held : Buildable Held (heldTable Ta ms us p) (us ++ (0 ∷ []))
+  pub holder : (h : Tree) × (holderTree Ta ms us start ≡ some h)
+
+abbrev pub Tables : (ℕ → Bool) → List ℕ → List ℕ → Choice → Type 0
+Tables Ta ms us Never = Unit {0}
+Tables Ta ms us Constant = Buildable Absent (firstRows Ta ms us) us
+Tables Ta ms us (Columns low high start) = ColumnTables Ta ms us (low + high) start
+
 -- what a tree built by a choice is
 pub record Result (m Ta : ℕ → Bool) (ms us : List ℕ) (t : Tree) (c : Choice) : Type 0 where
   pub tree : Tree
   pub is : treeFor Ta ms us c ≡ some tree
   pub equivalent : Equivalent t tree
-  pub gathered : Gathered m tree (holderFor Ta ms us c)
+  pub position : ℕ
+  pub gathered : Gathered m tree position
   pub own : Over (isIn (ms ++ us)) tree
-  pub small : size tree ≤ 2 * mostExpanded (length us) + mostExpanded (length ms) + 5
-  pub ready : ReadyFor Ta ms us (2 ^ length ms) c
+  pub tables : Tables Ta ms us c
 
 abbrev pub Verdict : (ℕ → Bool) → (ℕ → Bool) → List ℕ → List ℕ → Tree → Choice → Type 0
 Verdict m Ta ms us t Never = FiveFillings m t
 Verdict m Ta ms us t Constant = Result m Ta ms us t Constant
 Verdict m Ta ms us t (Columns low high start) = Result m Ta ms us t (Columns low high start)
+
+nothing : (x : Bool) → x && not x ≡ false
+nothing true = refl
+nothing false = refl
+
+absorbed : (a b : Bool) → (a || (a && b)) ≡ a
+absorbed true b = refl
+absorbed false b = refl
+
+-- a column that rises, and one that falls, by its two values
+by-rise : (a b h : Bool) → (a ≡ true → b ≡ true) → cond (differs h false) b a ≡ (a || (b && h))
+by-rise true b true e = e refl
+by-rise true b false e = refl
+by-rise false true true e = refl
+by-rise false false true e = refl
+by-rise false true false e = refl
+by-rise false false false e = refl
+
+by-fall : (a b h : Bool) → (a ≡ true → b ≡ true) → cond (differs h true) a b ≡ (a || (b && h))
+by-fall true b true e = e refl
+by-fall true b false e = refl
+by-fall false true true e = refl
+by-fall false false true e = refl
+by-fall false true false e = refl
+by-fall false false false e = refl
+
+only-zero : (g : ℕ) → isIn (0 ∷ []) g ≡ true → g ≡ 0
+unfolding isIn
+only-zero g e = eqb-true g 0 (sym (or-false (eqb g 0)) ∙ e)
+
+same-not : (b : Bool) → differs b b ≡ false
+same-not true = refl
+same-not false = refl
 
 pub both-false : (a b : Bool) → (a || b) ≡ false → (a ≡ false) × (b ≡ false)
 both-false true b e = absurd (true≢false e)
@@ -74,85 +129,13 @@ module _ (Ta : ℕ → Bool) (ms us : List ℕ) {m : ℕ → Bool} (parts : Mark
   abbrev n : ℕ
   n = 2 ^ length us
 
-  -- ---- over the groups given
-  abbrev Own : Option Tree → Type 0
-  Own o = OverOptional (isIn (ms ++ us)) o
+  -- ---- the parts
+  others : Others m us
+  others = record { groups = parts .other-groups; unmarked = parts .unmarked; once = parts .others }
 
-  own-join : (o : Operator) (a b : Option Tree) → Own a → Own b → Own (join o a b)
-  own-join o a b p q = join-over (isIn (ms ++ us)) o a b p q
-
-  others-own : (Tb : ℕ → Bool) (off : ℕ) → Own (expand Tb off w us)
-  others-own Tb off = expand-over (isIn (ms ++ us)) Tb off w us (parts .other-groups) (in-right ms us)
-
-  marks-own : (off : ℕ) → Own (expand Ta off 1 ms)
-  marks-own off = expand-over (isIn (ms ++ us)) Ta off 1 ms (parts .mark-groups) (in-left ms us)
-
-  columns-own : (low high start : ℕ) → Own (columnsTree Ta ms us low high start)
-  columns-own low high start = go (Ta start) (Ta high)
-    where
-      A : Option Tree
-      A = expand Ta low w us
-
-      B : Option Tree
-      B = expand Ta high w us
-
-      H : Option Tree
-      H = expand Ta start 1 ms
-
-      D : Option Tree
-      D = expand (varies Ta w low) high w us
-
-      go : (s b₀ : Bool) → Own (cond s (join union A (join difference B H)) (cond b₀ (join union A (join difference H B)) (join difference B (join difference D H))))
-      go true b₀ = own-join union A (join difference B H) (others-own Ta low) (own-join difference B H (others-own Ta high) (marks-own start))
-      go false true = own-join union A (join difference H B) (others-own Ta low) (own-join difference H B (marks-own start) (others-own Ta high))
-      go false false =
-          own-join difference B (join difference D H) (others-own Ta high) (own-join difference D H (others-own (varies Ta w low) high) (marks-own start))
-
-  constant-own : Own (constantTree Ta ms us)
-  constant-own =
-      let x = getD ms 0 0 in
-      let i = first-mark ms (parts .some-mark) in
-      let s : Own (single x) = single-over (isIn (ms ++ us)) x (parts .mark-groups x i) (in-left ms us x i) in
-      own-join union (expand Ta 0 w us) (join difference (single x) (single x)) (others-own Ta 0) (own-join difference (single x) (single x) s s)
-
-  -- ---- how large
-  abbrev Small : Option Tree → Type 0
-  Small o = sizeOptional o ≤ 2 * mostExpanded (length us) + mostExpanded (length ms) + 5
-
-  others-small : (Tb : ℕ → Bool) (off : ℕ) → sizeOptional (expand Tb off w us) ≤ mostExpanded (length us)
-  others-small Tb off = expand-size Tb off w us (parts .other-groups)
-
-  marks-small : (off : ℕ) → sizeOptional (expand Ta off 1 ms) ≤ mostExpanded (length ms)
-  marks-small off = expand-size Ta off 1 ms (parts .mark-groups)
-
-  three-small : (o : Operator) (a b c : Option Tree) → sizeOptional (join o a (join difference b c)) ≤ sizeOptional a + sizeOptional b + sizeOptional c + 2
-  three-small o a b c = omega (arith, join-size o a (join difference b c), join-size difference b c)
-
-  columns-small : (low high start : ℕ) → Small (columnsTree Ta ms us low high start)
-  columns-small low high start = go (Ta start) (Ta high)
-    where
-      A : Option Tree
-      A = expand Ta low w us
-
-      B : Option Tree
-      B = expand Ta high w us
-
-      H : Option Tree
-      H = expand Ta start 1 ms
-
-      D : Option Tree
-      D = expand (varies Ta w low) high w us
-
-      go : (s b₀ : Bool) → Small (cond s (join union A (join difference B H)) (cond b₀ (join union A (join difference H B)) (join difference B (join difference D H))))
-      go true b₀ = omega (arith, three-small union A B H, others-small Ta low, others-small Ta high, marks-small start)
-      go false true = omega (arith, three-small union A H B, others-small Ta low, others-small Ta high, marks-small start)
-      go false false = omega (arith, three-small difference B D H, others-small (varies Ta w low) high, others-small Ta high, marks-small start)
-
-  constant-small : Small (constantTree Ta ms us)
-  constant-small =
-      let x = getD ms 0 0 in
-      let e = parts .mark-groups x (first-mark ms (parts .some-mark)) in
-      omega (arith, three-small union (expand Ta 0 w us) (single x) (single x), others-small Ta 0, single-size x e)
+  holder-over : (p : ℕ → Bool) → ((g : ℕ) → isIn ms g ≡ true → p g ≡ true) → (start : ℕ) → Buildable Absent (columnTable Ta ms us start) ms → OverOptional p (holderTree Ta ms us start)
+  unfolding holderTree
+  holder-over p h start b = build-over p none choose (length ms) refl b (λ g q. group-over p none g (parts .mark-groups g q) (h g q))
 
   module _ (t : Tree) (tabled : Tabled Ta (ms ++ us) t) (over : Over (isIn (ms ++ us)) t) where
     -- the tree's value by the rows of its two lists of groups
@@ -169,64 +152,170 @@ module _ (Ta : ℕ → Bool) (ms us : List ℕ) {m : ℕ → Bool} (parts : Mark
         beq-true _ _ (all (p + w * k) (place-below w k p n hp hk)) ∙ rw (e, a, b)
 
     module _ (low high start : ℕ) (c : Chosen Ta ms us low high start) (all : (i : ℕ) → i < w * n → agrees Ta w low high start i ≡ true) where
-      low-zero : Ta low ≡ false
-      low-zero = go (c .one-zero)
-        where
-          go : (low ≡ 0) ⊎ (high ≡ 0) → Ta low ≡ false
-          go (inl e) = rw e (c .zero-row)
-          go (inr e) =
-              let q = by-columns low high start all 0 0 (pow-pos (length ms)) (pow-pos (length us)) in
-              ap Ta (omega (arith, mul-zero w)) ∙ both-false (Ta (low + w * 0)) (Ta (high + w * 0) && Ta (start + 0)) (sym q ∙ ap Ta (omega (arith, mul-zero w)) ∙ c .zero-row) .0
-
-      high-zero : Ta start ≡ true → Ta high ≡ false
-      high-zero h = go (c .one-zero)
-        where
-          go : (low ≡ 0) ⊎ (high ≡ 0) → Ta high ≡ false
-          go (inl e) = absurd (true≢false (sym h ∙ ap Ta (omega arith) ∙ c .low-value))
-          go (inr e) = rw e (c .zero-row)
-
       -- A is within B
       inside : (k : ℕ) → k < n → Ta (low + w * k) ≡ true → Ta (high + w * k) ≡ true
       inside k h e = by-columns low high start all high k (c .high-below) h ∙ rw e
 
-      built : Result m Ta ms us t (Columns low high start)
-      built =
-          let G = columns-gathered Ta ms us parts low high start (c .other) (c .starts) (c .low-below) (c .high-below) (c .other-below) (c .low-value) (c .high-value) high-zero in
-          record {
-            tree = G .tree;
-            is = G .is;
-            gathered = G .gathered;
-            own = subst (OverOptional (isIn (ms ++ us))) (G .is) (columns-own low high start);
-            small = subst Small (G .is) (columns-small low high start);
-            ready = columns-ready Ta ms us parts low high start (c .other) (c .starts) (c .low-below) (c .high-below) (c .other-below) (c .low-value) (c .high-value) high-zero;
-            equivalent = selects-equivalent t (G .tree) (λ v.
-                selects-place v
-                ∙ by-columns low high start all (rowOf v ms) (rowOf v us) (row-below v ms) (row-below v us)
-                ∙ sym (columns-selects Ta ms us parts v low high start (c .high-below) low-zero high-zero (inside (rowOf v us) (row-below v us)))
-                ∙ ap (selectsOptional v) (G .is));
-          }
+      -- ---- which of the two rows is the column's first
+      place : (k : ℕ) → low ≡ 0 → (Ta (w * k) ≡ Ta (low + w * k)) × (Ta (w * k + (low + high)) ≡ Ta (high + w * k))
+      place k e = (ap Ta (omega arith), ap Ta (omega arith))
 
-    built-constant : Ta 0 ≡ false → ((i : ℕ) → i < w * n → agrees Ta w 0 0 0 i ≡ true) → Result m Ta ms us t Constant
-    built-constant z all =
-        let G = constant-gathered Ta ms us parts in
-        record {
-          tree = G .tree;
-          is = G .is;
-          gathered = G .gathered;
-          own = subst (OverOptional (isIn (ms ++ us))) (G .is) constant-own;
-          small = subst Small (G .is) constant-small;
-          ready = tt;
-          equivalent = selects-equivalent t (G .tree) (λ v.
-              selects-place v
-              ∙ by-columns 0 0 0 all (rowOf v ms) (rowOf v us) (row-below v ms) (row-below v us)
-              ∙ absorbed (Ta (0 + w * rowOf v us)) (Ta (0 + rowOf v ms))
-              ∙ sym (constant-selects Ta ms us parts v z)
-              ∙ ap (selectsOptional v) (G .is));
-        }
-      where
-        absorbed : (a b : Bool) → (a || (a && b)) ≡ a
-        absorbed true b = refl
-        absorbed false b = refl
+      place′ : (k : ℕ) → high ≡ 0 → (Ta (w * k) ≡ Ta (high + w * k)) × (Ta (w * k + (low + high)) ≡ Ta (low + w * k))
+      place′ k e = (ap Ta (omega arith), ap Ta (omega arith))
+
+      start-rises : low ≡ 0 → Ta start ≡ false
+      start-rises e = ap Ta (omega arith) ∙ c .low-value
+
+      start-falls : high ≡ 0 → Ta start ≡ true
+      start-falls e = ap Ta (omega arith) ∙ c .high-value
+
+      row-varies : differs (Ta (start + (low + high))) (Ta start) ≡ true
+      row-varies = go (c .one-zero)
+        where
+          go : (low ≡ 0) ⊎ (high ≡ 0) → differs (Ta (start + (low + high))) (Ta start) ≡ true
+          go (inl e) = ap₂ differs (ap Ta (omega arith) ∙ c .high-value) (start-rises e)
+          go (inr e) = ap₂ differs (ap Ta (omega arith) ∙ c .low-value) (start-falls e)
+
+      row-inside : low + high < w
+      row-inside = go (c .one-zero)
+        where
+          go : (low ≡ 0) ⊎ (high ≡ 0) → low + high < w
+          go (inl e) = omega (arith, c .high-below)
+          go (inr e) = omega (arith, c .low-below)
+
+      can : canHold (heldTable Ta ms us (low + high)) ≡ true
+      can = go (c .one-zero)
+        where
+          go : (low ≡ 0) ⊎ (high ≡ 0) → canHold (heldTable Ta ms us (low + high)) ≡ true
+          go (inl e) = rises-held Ta ms us (low + high) (c .zero-row) (λ r h q. place r e .1 ∙ inside r h (sym (place r e .0) ∙ q)) (c .other) (c .other-below)
+              (ap Ta (sym (c .starts)) ∙ start-rises e) (place (c .other) e .1 ∙ ap Ta (omega (arith, c .starts)) ∙ c .high-value)
+          go (inr e) = falls-held Ta ms us (low + high) (c .zero-row) (λ r h q. place′ r e .0 ∙ inside r h (sym (place′ r e .1) ∙ q)) (c .other) (c .other-below)
+              (ap Ta (sym (c .starts)) ∙ start-falls e)
+
+      -- ---- the tables and their trees
+      column-ready : Buildable Absent (columnTable Ta ms us start) ms
+      column-ready = plain-buildable (λ j. differs (Ta (start + j)) (Ta start)) ms (parts .mark-groups) first-same
+        where
+          first-same : differs (Ta (start + 0)) (Ta start) ≡ false
+          first-same = ap (λ (k : ℕ). differs (Ta k) (Ta start)) (let e : start + 0 ≡ start = omega arith in e) ∙ same-not (Ta start)
+
+      held-ready : Buildable Held (heldTable Ta ms us (low + high)) (us ++ (0 ∷ []))
+      held-ready = held-buildable Ta ms us (low + high) (parts .other-groups) (c .zero-row) can
+
+      holder-some : Some (holderTree Ta ms us start)
+      unfolding holderTree
+      holder-some = build-some none choose column-ready (parts .marks) (plain-some-on (λ j. differs (Ta (start + j)) (Ta start)) (2 ^ length ms) (low + high) row-inside row-varies)
+
+      holder-gathered : GatheredSome m (holderTree Ta ms us start)
+      holder-gathered = record {
+        tree = holder-some .0;
+        is = holder-some .1;
+        position = size (holder-some .0) - 1;
+        gathered = gathered-whole (holder-some .0) (subst (OverOptional m) (holder-some .1) (holder-over m (parts .marked) start column-ready));
+      }
+
+      columns-gathered : GatheredSome m (columnsTree Ta ms us (low + high) start)
+      unfolding columnsTree
+      columns-gathered = held-gathered (holderTree Ta ms us start) choose (length us) us refl held-ready others holder-gathered
+
+      columns-own : OverOptional (isIn (ms ++ us)) (columnsTree Ta ms us (low + high) start)
+      unfolding columnsTree isIn
+      columns-own = build-over (isIn (ms ++ us)) (holderTree Ta ms us start) choose (suc (length us)) (omega (arith, length-append us (0 ∷ []))) held-ready
+          (λ g q. or-cases (isIn us g) (isIn (0 ∷ []) g) (sym (is-in-append us (0 ∷ []) g) ∙ q)
+          (λ e. group-over (isIn (ms ++ us)) (holderTree Ta ms us start) g (parts .other-groups g e) (in-right ms us g e))
+          (λ e. subst (λ (x : ℕ). OverOptional (isIn (ms ++ us)) (variableTree (holderTree Ta ms us start) x)) (sym (only-zero g e))
+          (holder-over (isIn (ms ++ us)) (in-left ms us) start column-ready)))
+
+      -- ---- what it selects
+      holder-selects : (v : ℕ → Bool) → selectsOptional v (holderTree Ta ms us start) ≡ differs (Ta (start + rowOf v ms)) (Ta start)
+      unfolding holderTree
+      holder-selects v = plain-selects (λ j. differs (Ta (start + j)) (Ta start)) ms (parts .mark-groups)
+          (ap (λ (k : ℕ). differs (Ta k) (Ta start)) (let e : start + 0 ≡ start = omega arith in e) ∙ same-not (Ta start)) choose none v
+
+      column-value : (p k : ℕ) → p < w → k < n → cond (differs (Ta (start + p)) (Ta start)) (Ta (w * k + (low + high))) (Ta (w * k)) ≡ Ta (p + w * k)
+      column-value p k hp hk = go (c .one-zero)
+        where
+          go : (low ≡ 0) ⊎ (high ≡ 0) → cond (differs (Ta (start + p)) (Ta start)) (Ta (w * k + (low + high))) (Ta (w * k)) ≡ Ta (p + w * k)
+          go (inl e) = rw (start-rises e, place k e .0, place k e .1) (by-rise (Ta (low + w * k)) (Ta (high + w * k)) (Ta (start + p)) (inside k hk)) ∙ sym (by-columns low high start all p k hp hk)
+          go (inr e) = rw (start-falls e, place′ k e .0, place′ k e .1) (by-fall (Ta (low + w * k)) (Ta (high + w * k)) (Ta (start + p)) (inside k hk)) ∙ sym (by-columns low high start all p k hp hk)
+
+      columns-selects : (v : ℕ → Bool) → selectsOptional v (columnsTree Ta ms us (low + high) start) ≡ selects v t
+      unfolding columnsTree
+      columns-selects v =
+          held-selects Ta ms us (low + high) held-ready (parts .other-groups) choose (holderTree Ta ms us start) v
+          ∙ ap (λ (b : Bool). cond b (Ta (w * rowOf v us + (low + high))) (Ta (w * rowOf v us))) (holder-selects v)
+          ∙ column-value (rowOf v ms) (rowOf v us) (row-below v ms) (row-below v us)
+          ∙ sym (selects-place v)
+
+      built : Result m Ta ms us t (Columns low high start)
+      built = record {
+        tree = columns-gathered .tree;
+        is = columns-gathered .is;
+        position = columns-gathered .position;
+        gathered = columns-gathered .gathered;
+        own = subst (OverOptional (isIn (ms ++ us))) (columns-gathered .is) columns-own;
+        tables = record {
+          row = row-inside;
+          inside = let l = mul-le-mul-left w (c .other-below) in omega (arith, mul-suc w (c .other), c .starts);
+          column = column-ready;
+          held = held-ready;
+          holder = holder-some;
+        };
+        equivalent = selects-equivalent t (columns-gathered .tree) (λ v. sym (columns-selects v) ∙ ap (selectsOptional v) (columns-gathered .is));
+      }
+
+    -- ---- all columns are constant
+    module _ (z : Ta 0 ≡ false) (all : (i : ℕ) → i < w * n → agrees Ta w 0 0 0 i ≡ true) where
+      first-ready : Buildable Absent (firstRows Ta ms us) us
+      first-ready = plain-buildable (λ r. Ta (w * r)) us (parts .other-groups) (ap Ta (mul-zero w) ∙ z)
+
+      mark-in : isIn ms (getD ms 0 0) ≡ true
+      mark-in = variable-in ms 0 (parts .some-mark)
+
+      mark-group : isGroup (getD ms 0 0) ≡ true
+      mark-group = parts .mark-groups (getD ms 0 0) mark-in
+
+      nothing-gathered : GatheredSome m (join difference (single (getD ms 0 0)) (single (getD ms 0 0)))
+      unfolding Over
+      nothing-gathered =
+          let l = leaf (getD ms 0 0) (group-holds (getD ms 0 0) mark-group) in
+          let e = single-leaf (getD ms 0 0) mark-group in
+          let o = parts .marked (getD ms 0 0) mark-in in
+          record { tree = node difference l l; is = ap₂ (join difference) e e; position = size (node difference l l) - 1; gathered = gathered-whole (node difference l l) (o, o) }
+
+      constant-gathered : GatheredSome m (constantTree Ta ms us)
+      unfolding constantTree
+      constant-gathered = join-right union (build choose (length us) Absent (firstRows Ta ms us) us none) (join difference (single (getD ms 0 0)) (single (getD ms 0 0)))
+          (λ e. absurd (union-not e)) (plain-over none choose (length us) refl first-ready (parts .unmarked)) nothing-gathered
+
+      constant-own : OverOptional (isIn (ms ++ us)) (constantTree Ta ms us)
+      unfolding constantTree
+      constant-own =
+          let s : OverOptional (isIn (ms ++ us)) (single (getD ms 0 0)) = single-over (isIn (ms ++ us)) (getD ms 0 0) mark-group (in-left ms us (getD ms 0 0) mark-in) in
+          join-over (isIn (ms ++ us)) union (build choose (length us) Absent (firstRows Ta ms us) us none) (join difference (single (getD ms 0 0)) (single (getD ms 0 0)))
+          (build-over (isIn (ms ++ us)) none choose (length us) refl first-ready (λ g q. group-over (isIn (ms ++ us)) none g (parts .other-groups g q) (in-right ms us g q)))
+          (join-over (isIn (ms ++ us)) difference (single (getD ms 0 0)) (single (getD ms 0 0)) s s)
+
+      constant-selects : (v : ℕ → Bool) → selectsOptional v (constantTree Ta ms us) ≡ selects v t
+      unfolding constantTree
+      constant-selects v =
+          join-selects v union (build choose (length us) Absent (firstRows Ta ms us) us none) (join difference (single (getD ms 0 0)) (single (getD ms 0 0)))
+          ∙ ap₂ _||_ (plain-selects (λ r. Ta (w * r)) us (parts .other-groups) (ap Ta (mul-zero w) ∙ z) choose none v)
+          (join-selects v difference (single (getD ms 0 0)) (single (getD ms 0 0)) ∙ nothing (selectsOptional v (single (getD ms 0 0))))
+          ∙ or-false _
+          ∙ sym (by-columns 0 0 0 all (rowOf v ms) (rowOf v us) (row-below v ms) (row-below v us) ∙ absorbed (Ta (0 + w * rowOf v us)) (Ta (0 + rowOf v ms)) ∙ ap Ta (omega arith))
+          ∙ sym (selects-place v)
+
+      built-constant : Result m Ta ms us t Constant
+      built-constant = record {
+        tree = constant-gathered .tree;
+        is = constant-gathered .is;
+        position = constant-gathered .position;
+        gathered = constant-gathered .gathered;
+        own = subst (OverOptional (isIn (ms ++ us))) (constant-gathered .is) constant-own;
+        tables = first-ready;
+        equivalent = selects-equivalent t (constant-gathered .tree) (λ v. sym (constant-selects v) ∙ ap (selectsOptional v) (constant-gathered .is));
+      }
 
     -- ---- a row fails
     -- the marked groups filled as their row p, the others as their row k

@@ -1,220 +1,223 @@
--- The gathered tree A ∪ (B ∩ h) in its three forms, and A ∪ (m − m) where all columns are constant:
--- what they select, over which groups they are, where the holder is, and how large they are.
+-- The tables of the columns: a tree can be built for each, and what it selects.
 use mathlib.Core.Path.{_≡_, refl, sym, ap, ap₂, subst, _∙_}
-use mathlib.Core.Bool.{Bool, true, false, not, cond, Bool·beq, _&&_, _||_, true≢false}
-use mathlib.Core.List.{List}
-use mathlib.Core.Option.{Option, some, none}
-use Prim.Native.Nat.{ℕ, _+_, _-_, _*_, _%_, _^_, _<_}
-use native.Mathlib.Nat.{mod-eq-of-lt, add-mul-mod-self-left, mul-suc, mul-le-mul-left}
+use mathlib.Core.Bool.{Bool, true, false, not, cond, Bool·beq, _&&_, _||_, true≢false, false≢true}
+use mathlib.Core.List.{List, [], _∷_, _++_}
+use mathlib.Core.Option.{Option, some}
+use Prim.Native.Nat.{ℕ, suc, _+_, _-_, _*_, _/_, _%_, _^_, _<_, _≤_}
+use native.Mathlib.Nat.{mod-eq-of-lt, pow-suc, mul-one, mul-zero}
 use native.Mathlib.Omega.{arith}
-use lib.ListN.{length, getD}
-use Rattle.tree.specs.Tree.{union, difference, Tree, leaf, node, size, Over}
-use Rattle.tree.proofs.TreeLaws.{size-positive, or-false}
-use Rattle.table.proofs.TableLaws.{rowOf}
-use Rattle.builder.proofs.BuildingLaws.{selectsOptional, OverOptional, join-selects, single-leaf, single-over, group-holds, every-passes, Passes, implies, implied, implies-by, beq-true, expand-selects, expand-over, expand-some}
-use Rattle.builder.specs.InnerBuilding.{sizeOptional, join, single, differs, expand}
-use Rattle.columns.proofs.BuildLaws.{first-mark}
-use Rattle.columns.specs.InnerJoining.{varies, columnsTree, columnsHolder, constantTree, constantHolder}
-use Rattle.columns.specs.Inner.{Ready}
-use Rattle.gather.specs.Gathering.{Gathered}
-use Rattle.gather.specs.Inner.{MarkedParts}
-use Rattle.gather.proofs.GatheringLaws.{unmarked, gathered-whole, gathered-left, gathered-right}
+use lib.Pow.{pow-pos}
+use lib.Dec.{ltb, eqb}
+use borrow.Author.Tests.{lt-ltb, le-ltb, ltb-true, ltb-false}
+use lib.ListN.{length, getD, length-append, List·getD-eq-default}
+use Rattle.tree.specs.Tree.{Tree, isGroup, isIn}
+use Rattle.table.specs.InnerTable.{tabulate}
+use Rattle.table.proofs.TableLaws.{rowOf, row-below, row-agree, row-append, tabulate-at, length-tabulate}
+use Rattle.forms.specs.InnerForms.{Table, rowAt, lowRow, half, atPair, mayUse, firstRow, secondRow, firstPart, secondPart, usable, someOn}
+use Rattle.forms.specs.declared.Row.{Row}
+use Rattle.forms.specs.declared.Form.{Form}
+use Rattle.forms.specs.declared.Form.the-variants.{Less, Plus, LessOutside}
+use Rattle.steps.specs.InnerSteps.{formCount, formOf, keepsHolder, allowedTop, firstTop, canHold}
+use Rattle.steps.specs.declared.Holder.{Holder}
+use Rattle.steps.specs.declared.Holder.the-variants.{Absent, Held}
+use Rattle.builder.specs.InnerBuilding.{build}
+use Rattle.builder.proofs.JoinLaws.{selectsOptional}
+use Rattle.forms.proofs.FormLaws.{fits}
+use Rattle.builder.proofs.RowLaws.{split-row, half-rows, split-rows, MayUse, usable-by, some-on}
+use Rattle.builder.proofs.TakenLaws.{some-allowed}
+use Rattle.builder.proofs.ReadyLaws.{Buildable, group-not-zero}
+use Rattle.builder.proofs.BuildLaws.{filled, build-agrees}
+use Rattle.columns.specs.InnerJoining.{exactTable, differs, heldRow, heldTable}
 
--- ---- gathered, of no tree or a tree
-pub record GatheredOptional (m : ℕ → Bool) (o : Option Tree) (p : ℕ) : Type 0 where
-  pub tree : Tree
-  pub is : o ≡ some tree
-  pub gathered : Gathered m tree p
+-- ---- exact tables
+abbrev exactRow : Bool → Row
+exactRow b = record { on = b; off = not b }
 
-union-right : {m : ℕ → Bool} {u : Tree} {p : ℕ} (a : Option Tree) → OverOptional (unmarked m) a → Gathered m u p → GatheredOptional m (join union a (some u)) (sizeOptional a + p)
-union-right {m} {u} {p} none h g = record { tree = u; is = refl; gathered = subst (Gathered m u) (omega arith) g }
-union-right {m} {u} {p} (some a) h g = record { tree = node union a u; is = refl; gathered = gathered-right union a h g }
+not-both : (b : Bool) → (b && not b) ≡ false
+not-both true = refl
+not-both false = refl
 
-difference-left : {m : ℕ → Bool} {u : Tree} {p : ℕ} (b : Option Tree) → Gathered m u p → OverOptional (unmarked m) b → GatheredOptional m (join difference (some u) b) p
-difference-left {m} {u} {p} none g h = record { tree = u; is = refl; gathered = g }
-difference-left {m} {u} {p} (some b) g h = record { tree = node difference u b; is = refl; gathered = gathered-left difference b g h }
+fits-exact : (b x : Bool) → fits (exactRow b) x ≡ true → x ≡ b
+fits-exact true true e = refl
+fits-exact true false e = absurd (false≢true e)
+fits-exact false true e = absurd (false≢true e)
+fits-exact false false e = refl
 
--- ---- what the three forms select: s is h's first value, b₀ that of B
-abbrev threeForms : Bool → Bool → Bool → Bool → Bool → Bool
-threeForms s b₀ a b h =
-    cond s (a || (differs b b₀ && not (differs h s)))
-    (cond b₀ (a || (differs h s && not (differs b b₀))) (differs b b₀ && not ((b && not a) && not (differs h s))))
+module _ (f : ℕ → Bool) (count : ℕ) where
+  exact-row : (i : ℕ) → i < count → rowAt (exactTable f count) i ≡ exactRow (f i)
+  exact-row i h = ap₂ (λ (x y : Bool). record { on = x; off = y })
+      (tabulate-at f count 0 i h ∙ ap f (omega arith)) (tabulate-at (λ k. not (f k)) count 0 i h ∙ ap (λ (k : ℕ). not (f k)) (omega arith))
 
-abbrev threeTest : Bool → Bool → Bool → Bool → Bool → Bool
-threeTest s b₀ a b h = implies (implies s (not b₀)) (implies (implies a (not (not b))) (Bool·beq (threeForms s b₀ a b h) (a || (b && h))))
+  exact-consistent : (i : ℕ) → (rowAt (exactTable f count) i .on && rowAt (exactTable f count) i .off) ≡ false
+  exact-consistent i = go (ltb i count) refl
+    where
+      go : (b : Bool) → ltb i count ≡ b → (rowAt (exactTable f count) i .on && rowAt (exactTable f count) i .off) ≡ false
+      go true e = ap (λ (x : Row). x .on && x .off) (exact-row i (ltb-true i count e)) ∙ not-both (f i)
+      go false e =
+          let l : count ≤ i = ltb-false i count e in
+          ap (λ (b : Bool). b && rowAt (exactTable f count) i .off) (List·getD-eq-default (exactTable f count .on) false (omega (arith, length-tabulate f count 0)))
 
-three-test : Passes 5 threeTest
-three-test = every-passes 5 threeTest refl
+  exact-same : length (exactTable f count .off) ≡ length (exactTable f count .on)
+  exact-same = length-tabulate (λ k. not (f k)) count 0 ∙ sym (length-tabulate f count 0)
 
-three-forms : (s b₀ a b h : Bool) → (s ≡ true → b₀ ≡ false) → (a ≡ true → b ≡ true) → threeForms s b₀ a b h ≡ (a || (b && h))
-three-forms s b₀ a b h p q =
-    beq-true _ _ (implied _ _ (implied _ _ (three-test s b₀ a b h) (implies-by s b₀ p)) (implies-by a (not b) (λ e. ap not (q e))))
+  exact-first : 0 < count → f 0 ≡ false → rowAt (exactTable f count) 0 .on ≡ false
+  exact-first h e = ap (λ (x : Row). x .on) (exact-row 0 h) ∙ e
 
-differs-false : (a b : Bool) → b ≡ false → differs a b ≡ a
-differs-false true b e = rw e
-differs-false false b e = rw e
+-- a table over groups
+pub plain-buildable : (f : ℕ → Bool) (gs : List ℕ) → ((g : ℕ) → isIn gs g ≡ true → isGroup g ≡ true) → f 0 ≡ false → Buildable Absent (exactTable f (2 ^ length gs)) gs
+plain-buildable f gs groups e = record {
+  rows = length-tabulate f (2 ^ length gs) 0;
+  same = exact-same f (2 ^ length gs);
+  first = exact-first f (2 ^ length gs) (pow-pos (length gs)) e;
+  consistent = exact-consistent f (2 ^ length gs);
+  variables = groups;
+  holder = tt;
+}
 
-module _ (Ta : ℕ → Bool) (ms us : List ℕ) {m : ℕ → Bool} (parts : MarkedParts m ms us) (v : ℕ → Bool) where
+filled-row : (v : ℕ → Bool) (h : Option Tree) (gs : List ℕ) → ((g : ℕ) → isIn gs g ≡ true → isGroup g ≡ true) → rowOf (filled v h) gs ≡ rowOf v gs
+filled-row v h gs groups = row-agree (filled v h) v gs (λ g q. ap (λ (b : Bool). cond b (selectsOptional v h) (v g)) (group-not-zero g (groups g q)))
+
+-- its tree selects by it
+pub plain-selects : (f : ℕ → Bool) (gs : List ℕ) (groups : (g : ℕ) → isIn gs g ≡ true → isGroup g ≡ true) → f 0 ≡ false → (choice : Holder → Table → ℕ → ℕ) (h : Option Tree) (v : ℕ → Bool)
+    → selectsOptional v (build choice (length gs) Absent (exactTable f (2 ^ length gs)) gs h) ≡ f (rowOf v gs)
+plain-selects f gs groups e choice h v =
+    let row : rowOf (filled v h) gs ≡ rowOf v gs = filled-row v h gs groups in
+    fits-exact (f (rowOf v gs)) _
+    (ap (λ (x : Row). fits x (selectsOptional v (build choice (length gs) Absent (exactTable f (2 ^ length gs)) gs h)))
+    (sym (exact-row f (2 ^ length gs) (rowOf v gs) (row-below v gs)) ∙ ap (rowAt (exactTable f (2 ^ length gs))) (sym row))
+    ∙ build-agrees v h choice (length gs) refl (plain-buildable f gs groups e))
+
+pub plain-some-on : (f : ℕ → Bool) (count i : ℕ) → i < count → f i ≡ true → someOn (exactTable f count) ≡ true
+plain-some-on f count i h e = some-on (exactTable f count) i (omega (arith, length-tabulate f count 0)) (ap (λ (x : Row). x .on) (exact-row f count i h) ∙ e)
+
+-- ---- the table with the holder
+both-true : (a b : Bool) → a ≡ true → b ≡ true → (a && b) ≡ true
+both-true a b e f = rw (e, f)
+
+false-by : (a b : Bool) → (b ≡ true → a ≡ true) → a ≡ false → b ≡ false
+false-by a true h e = absurd (false≢true (sym e ∙ h refl))
+false-by a false h e = refl
+
+less-may : (a b : Bool) → (b ≡ true → a ≡ true) → mayUse Less (exactRow a) (exactRow b) ≡ true
+less-may true b h = refl
+less-may false true h = h refl
+less-may false false h = refl
+
+plus-may : (a b : Bool) → (a ≡ true → b ≡ true) → mayUse Plus (exactRow a) (exactRow b) ≡ true
+plus-may true true h = refl
+plus-may true false h = h refl
+plus-may false b h = refl
+
+module _ (Ta : ℕ → Bool) (ms us : List ℕ) (p : ℕ) where
   abbrev w : ℕ
   w = 2 ^ length ms
 
-  -- `varies` at a row of the columns' rows `high`
-  varies-at : (low high k : ℕ) → high < w → varies Ta w low (high + w * k) ≡ (Ta (high + w * k) && not (Ta (low + w * k)))
-  unfolding varies
-  varies-at low high k h =
-      let e : (high + w * k) % w ≡ high = add-mul-mod-self-left high w k ∙ mod-eq-of-lt h in
-      let f : high + w * k - high + low ≡ low + w * k = omega arith in
-      rw (e, f)
+  abbrev n : ℕ
+  n = 2 ^ length us
 
-  varies-first : (low high : ℕ) → Ta high ≡ false → varies Ta w low high ≡ false
-  unfolding varies
-  varies-first low high e = ap (λ (x : Bool). x && not (Ta (high - high % w + low))) e
+  abbrev held : Table
+  held = heldTable Ta ms us p
 
-  at-low : (low : ℕ) → Ta low ≡ false → selectsOptional v (expand Ta low w us) ≡ Ta (low + w * rowOf v us)
-  at-low low e = expand-selects Ta low w us (parts .other-groups) v ∙ differs-false _ _ e
+  held-rows : length (held .on) ≡ 2 ^ suc (length us)
+  held-rows = length-tabulate (heldRow Ta ms us p) (2 ^ suc (length us)) 0
 
-  pub columns-selects : (low high start : ℕ) → high < w → Ta low ≡ false → (Ta start ≡ true → Ta high ≡ false)
-      → (Ta (low + w * rowOf v us) ≡ true → Ta (high + w * rowOf v us) ≡ true)
-      → selectsOptional v (columnsTree Ta ms us low high start) ≡ (Ta (low + w * rowOf v us) || (Ta (high + w * rowOf v us) && Ta (start + rowOf v ms)))
-  columns-selects low high start hw ea es ab =
-      go (Ta start) (Ta high) refl refl
-      ∙ three-forms (Ta start) (Ta high) (Ta (low + w * rowOf v us)) (Ta (high + w * rowOf v us)) (Ta (start + rowOf v ms)) es ab
-    where
-      A : Option Tree
-      A = expand Ta low w us
+  half-held : half held ≡ n
+  half-held = half-rows (held .on) (length us) held-rows
 
-      B : Option Tree
-      B = expand Ta high w us
+  low-value : (r : ℕ) → r < n → heldRow Ta ms us p r ≡ Ta (w * r)
+  low-value r h = ap (λ (b : Bool). Ta (cond b (w * r) (w * (r - n) + p))) (lt-ltb r n h)
 
-      H : Option Tree
-      H = expand Ta start 1 ms
+  high-value : (r : ℕ) → heldRow Ta ms us p (r + n) ≡ Ta (w * r + p)
+  high-value r = ap (λ (b : Bool). Ta (cond b (w * (r + n)) (w * (r + n - n) + p))) (le-ltb (r + n) n (omega arith)) ∙ ap (λ (k : ℕ). Ta (w * k + p)) (let e : r + n - n ≡ r = omega arith in e)
 
-      D : Option Tree
-      D = expand (varies Ta w low) high w us
+  -- the two rows of a column
+  held-pair : {A : Type 0} (f : Row → Row → A) (r : ℕ) → r < n → atPair f held (half held) r ≡ f (exactRow (Ta (w * r))) (exactRow (Ta (w * r + p)))
+  held-pair f r h =
+      let m : r % n ≡ r = mod-eq-of-lt h in
+      let l : lowRow (half held) r ≡ r = ap (λ (k : ℕ). lowRow k r) half-held ∙ omega arith in
+      let u : lowRow (half held) r + half held ≡ r + n = ap₂ _+_ l half-held in
+      ap₂ f
+      (ap (rowAt held) l ∙ exact-row (heldRow Ta ms us p) (2 ^ suc (length us)) r (omega (arith, pow-suc 2 (length us))) ∙ ap exactRow (low-value r h))
+      (ap (rowAt held) u ∙ exact-row (heldRow Ta ms us p) (2 ^ suc (length us)) (r + n) (omega (arith, pow-suc 2 (length us))) ∙ ap exactRow (high-value r))
 
-      a : selectsOptional v A ≡ Ta (low + w * rowOf v us)
-      a = at-low low ea
+  first-on : (form : Form) (r : ℕ) → r < n → firstRow form (exactRow (Ta (w * r))) (exactRow (Ta (w * r + p))) .on ≡ true → someOn (firstPart form held (half held)) ≡ true
+  unfolding firstPart
+  first-on form r h e = some-on (firstPart form held (half held)) r (omega (arith, split-rows (firstRow form) held (half held) (length us) held-rows))
+      (ap (λ (x : Row). x .on) (split-row (firstRow form) held (half held) r (omega (arith, half-held)) ∙ held-pair (firstRow form) r h) ∙ e)
 
-      b : selectsOptional v B ≡ differs (Ta (high + w * rowOf v us)) (Ta high)
-      b = expand-selects Ta high w us (parts .other-groups) v
+  second-on : (form : Form) (r : ℕ) → r < n → secondRow form (exactRow (Ta (w * r))) (exactRow (Ta (w * r + p))) .on ≡ true → someOn (secondPart form held (half held)) ≡ true
+  unfolding secondPart
+  second-on form r h e = some-on (secondPart form held (half held)) r (omega (arith, split-rows (secondRow form) held (half held) (length us) held-rows))
+      (ap (λ (x : Row). x .on) (split-row (secondRow form) held (half held) r (omega (arith, half-held)) ∙ held-pair (secondRow form) r h) ∙ e)
 
-      h : selectsOptional v H ≡ differs (Ta (start + rowOf v ms)) (Ta start)
-      h = expand-selects Ta start 1 ms (parts .mark-groups) v ∙ ap (λ (i : ℕ). differs (Ta i) (Ta start)) (omega arith)
+  usable-held : (form : Form) → ((r : ℕ) → r < n → mayUse form (exactRow (Ta (w * r))) (exactRow (Ta (w * r + p))) ≡ true)
+      → firstRow form (exactRow (Ta (w * 0))) (exactRow (Ta (w * 0 + p))) .on ≡ false → secondRow form (exactRow (Ta (w * 0))) (exactRow (Ta (w * 0 + p))) .on ≡ false
+      → usable form held (half held) ≡ true
+  usable-held form pairs a b = usable-by (record {
+    pairs = λ r h. let l : r < n = omega (arith, half-held) in held-pair (mayUse form) r l ∙ pairs r l;
+    first = ap (λ (x : Row). x .on) (held-pair (firstRow form) 0 (pow-pos (length us))) ∙ a;
+    second = ap (λ (x : Row). x .on) (held-pair (secondRow form) 0 (pow-pos (length us))) ∙ b;
+  })
 
-      d : Ta high ≡ false → selectsOptional v D ≡ (Ta (high + w * rowOf v us) && not (Ta (low + w * rowOf v us)))
-      d e = expand-selects (varies Ta w low) high w us (parts .other-groups) v
-          ∙ differs-false _ _ (varies-first low high e)
-          ∙ varies-at low high (rowOf v us) hw
+  allowed-held : (k : ℕ) → k < formCount → usable (formOf k) held (half held) ≡ true → keepsHolder (formOf k) held ≡ true → canHold held ≡ true
+  allowed-held k h e q = lt-ltb (firstTop Held held) formCount (some-allowed Held held k h (both-true _ _ e q))
 
-      go : (s b₀ : Bool) → Ta start ≡ s → Ta high ≡ b₀
-          → selectsOptional v (cond s (join union A (join difference B H)) (cond b₀ (join union A (join difference H B)) (join difference B (join difference D H))))
-          ≡ threeForms s b₀ (Ta (low + w * rowOf v us)) (Ta (high + w * rowOf v us)) (Ta (start + rowOf v ms))
-      go true b₀ p q = join-selects v union A _ ∙ ap₂ _||_ a (join-selects v difference B H ∙ ap₂ (λ (x y : Bool). x && not y) (rw q at b) (rw p at h))
-      go false true p q = join-selects v union A _ ∙ ap₂ _||_ a (join-selects v difference H B ∙ ap₂ (λ (x y : Bool). x && not y) (rw p at h) (rw q at b))
-      go false false p q =
-          join-selects v difference B _
-          ∙ ap₂ (λ (x y : Bool). x && not y) (rw q at b) (join-selects v difference D H ∙ ap₂ (λ (x y : Bool). x && not y) (d q) (rw p at h))
+  -- no column rises, and one falls
+  pub falls-held : Ta 0 ≡ false → ((r : ℕ) → r < n → Ta (w * r + p) ≡ true → Ta (w * r) ≡ true) → (r : ℕ) → r < n → Ta (w * r) ≡ true → canHold held ≡ true
+  falls-held z inside r h e =
+      let a : Ta (w * 0) ≡ false = ap Ta (mul-zero w) ∙ z in
+      let b : Ta (w * 0 + p) ≡ false = false-by _ _ (inside 0 (pow-pos (length us))) a in
+      allowed-held 1 (omega arith) (usable-held Less (λ i l. less-may (Ta (w * i)) (Ta (w * i + p)) (inside i l)) (rw (a, b)) b) (first-on Less r h (rw e))
 
-  nothing : (x : Bool) → x && not x ≡ false
-  nothing true = refl
-  nothing false = refl
+  -- no column falls, and one rises
+  module _ (z : Ta 0 ≡ false) (inside : (r : ℕ) → r < n → Ta (w * r) ≡ true → Ta (w * r + p) ≡ true) (r : ℕ) (h : r < n) (off : Ta (w * r) ≡ false) (on : Ta (w * r + p) ≡ true) where
+    zero-low : Ta (w * 0) ≡ false
+    zero-low = ap Ta (mul-zero w) ∙ z
 
-  pub constant-selects : Ta 0 ≡ false → selectsOptional v (constantTree Ta ms us) ≡ Ta (0 + w * rowOf v us)
-  constant-selects e =
-      join-selects v union (expand Ta 0 w us) (join difference (single (getD ms 0 0)) (single (getD ms 0 0)))
-      ∙ ap₂ _||_ (at-low 0 e) (join-selects v difference (single (getD ms 0 0)) (single (getD ms 0 0)) ∙ nothing (selectsOptional v (single (getD ms 0 0))))
-      ∙ or-false _
-
--- ---- where the holder is
-at-position : {m : ℕ → Bool} {o : Option Tree} {p q : ℕ} → p ≡ q → GatheredOptional m o p → GatheredOptional m o q
-at-position {m} {o} e g = subst (GatheredOptional m o) e g
-
-module _ (Ta : ℕ → Bool) (ms us : List ℕ) {m : ℕ → Bool} (parts : MarkedParts m ms us) where
-  -- over unmarked groups, and over marked ones
-  others-over : (Tb : ℕ → Bool) (off step : ℕ) → OverOptional (unmarked m) (expand Tb off step us)
-  others-over Tb off step = expand-over (unmarked m) Tb off step us (parts .other-groups) (λ g e. ap not (parts .unmarked g e))
-
-  marks-over : (off step : ℕ) → OverOptional m (expand Ta off step ms)
-  marks-over off step = expand-over m Ta off step ms (parts .mark-groups) (parts .marked)
-
-  module _ (low high start k : ℕ) (es : start ≡ 2 ^ length ms * k) (hl : low < 2 ^ length ms) (hh : high < 2 ^ length ms) (hk : k < 2 ^ length us)
-      (el : Ta (start + low) ≡ false) (eh : Ta (start + high) ≡ true) where
-    some-sometimes : Ta high ≡ false → (t : Tree) × (expand Ta high (2 ^ length ms) us ≡ some t)
-    some-sometimes e = expand-some Ta high (2 ^ length ms) us (parts .other-groups) (parts .others) k hk
-        (λ q. true≢false (sym eh ∙ ap Ta (omega arith) ∙ q ∙ e))
-
-    some-varying : Ta high ≡ false → (t : Tree) × (expand (varies Ta (2 ^ length ms) low) high (2 ^ length ms) us ≡ some t)
-    some-varying e =
-        let x : Ta (high + 2 ^ length ms * k) ≡ true = ap Ta (omega arith) ∙ eh in
-        let y : Ta (low + 2 ^ length ms * k) ≡ false = ap Ta (omega arith) ∙ el in
-        let z : (Ta (high + 2 ^ length ms * k) && not (Ta (low + 2 ^ length ms * k))) ≡ true = rw (x, y) in
-        expand-some (varies Ta (2 ^ length ms) low) high (2 ^ length ms) us (parts .other-groups) (parts .others) k hk
-        (λ q. true≢false (sym z ∙ sym (varies-at Ta ms us parts (λ g. false) low high k hh) ∙ q ∙ varies-first Ta ms us parts (λ g. false) low high e))
-
-    some-held : (s : Bool) → Ta start ≡ s → (t : Tree) × (expand Ta start 1 ms ≡ some t)
-    some-held true e = expand-some Ta start 1 ms (parts .mark-groups) (parts .marks) low hl (λ q. true≢false (sym e ∙ sym q ∙ ap Ta (omega arith) ∙ el))
-    some-held false e = expand-some Ta start 1 ms (parts .mark-groups) (parts .marks) high hh (λ q. true≢false (sym eh ∙ ap Ta (omega arith) ∙ q ∙ e))
-
-    pub columns-ready : (Ta start ≡ true → Ta high ≡ false) → Ready Ta ms us (2 ^ length ms) low high start
-    columns-ready ab = record {
-      held = some-held (Ta start) refl;
-      first = ab;
-      sometimes = some-sometimes;
-      varying = some-varying;
-      low-below = hl;
-      high-below = hh;
-      inside = let l = mul-le-mul-left (2 ^ length ms) hk in omega (arith, mul-suc (2 ^ length ms) k);
-    }
-
-    pub columns-gathered : (Ta start ≡ true → Ta high ≡ false) → GatheredOptional m (columnsTree Ta ms us low high start) (columnsHolder Ta ms us low high start)
-    columns-gathered ab = go (Ta start) (Ta high) refl refl
+    pub rises-held : canHold held ≡ true
+    rises-held = go (Ta (w * 0 + p)) refl
       where
-        A : Option Tree
-        A = expand Ta low (2 ^ length ms) us
+        go : (b : Bool) → Ta (w * 0 + p) ≡ b → canHold held ≡ true
+        go true e = allowed-held 2 (omega arith) (usable-held Plus (λ i l. plus-may (Ta (w * i)) (Ta (w * i + p)) (inside i l)) zero-low (ap not e)) refl
+        go false e =
+            allowed-held 5 (omega arith) (usable-held LessOutside (λ i l. plus-may (Ta (w * i)) (Ta (w * i + p)) (inside i l)) (rw (zero-low, e)) (rw (zero-low, e)))
+            (both-true _ _ (first-on LessOutside r h (rw (off, on))) (second-on LessOutside r h (rw (off, on))))
 
-        B : Option Tree
-        B = expand Ta high (2 ^ length ms) us
+  pub held-buildable : ((g : ℕ) → isIn us g ≡ true → isGroup g ≡ true) → Ta 0 ≡ false → canHold held ≡ true → Buildable Held held (us ++ (0 ∷ []))
+  held-buildable groups z c = record {
+    rows = held-rows ∙ ap (λ (k : ℕ). 2 ^ k) (let e : suc (length us) ≡ length (us ++ (0 ∷ [])) = omega (arith, length-append us (0 ∷ [])) in e);
+    same = exact-same (heldRow Ta ms us p) (2 ^ suc (length us));
+    first = exact-first (heldRow Ta ms us p) (2 ^ suc (length us)) (pow-pos (suc (length us))) (low-value 0 (pow-pos (length us)) ∙ ap Ta (mul-zero w) ∙ z);
+    consistent = exact-consistent (heldRow Ta ms us p) (2 ^ suc (length us));
+    variables = (us, refl, groups);
+    holder = c;
+  }
 
-        H : Option Tree
-        H = expand Ta start 1 ms
+  -- what the tree selects: the column's first row, or its row p where the holder selects
+  row-last : (v : ℕ → Bool) → rowOf v (us ++ (0 ∷ [])) ≡ cond (v 0) (rowOf v us + n) (rowOf v us)
+  unfolding rowOf
+  row-last v = row-append v us (0 ∷ []) ∙ go (v 0)
+    where
+      go : (b : Bool) → rowOf v us + 2 ^ length us * (cond b 1 0 + 2 * 0) ≡ cond b (rowOf v us + n) (rowOf v us)
+      go true = omega (arith, mul-one (2 ^ length us))
+      go false = omega (arith, mul-zero (2 ^ length us))
 
-        D : Option Tree
-        D = expand (varies Ta (2 ^ length ms) low) high (2 ^ length ms) us
+  pub held-selects : Buildable Held held (us ++ (0 ∷ [])) → ((g : ℕ) → isIn us g ≡ true → isGroup g ≡ true) → (choice : Holder → Table → ℕ → ℕ) (h : Option Tree) (v : ℕ → Bool)
+      → selectsOptional v (build choice (suc (length us)) Held held (us ++ (0 ∷ [])) h) ≡ cond (selectsOptional v h) (Ta (w * rowOf v us + p)) (Ta (w * rowOf v us))
+  held-selects b groups choice h v = go (selectsOptional v h) refl
+    where
+      l : length (us ++ (0 ∷ [])) ≡ suc (length us)
+      l = omega (arith, length-append us (0 ∷ []))
 
-        first : (b h : Tree) → B ≡ some b → H ≡ some h → GatheredOptional m (join union A (join difference B H)) (sizeOptional A + sizeOptional B + sizeOptional H - 1)
-        first b h p q = rw (p, q)
-            (at-position (omega (arith, size-positive h)) (union-right A (others-over Ta low (2 ^ length ms))
-            (gathered-right difference b (subst (OverOptional (unmarked m)) p (others-over Ta high (2 ^ length ms))) (gathered-whole h (subst (OverOptional m) q (marks-over start 1))))))
+      at : (i : ℕ) → rowOf (filled v h) (us ++ (0 ∷ [])) ≡ i → i < 2 ^ suc (length us)
+          → selectsOptional v (build choice (suc (length us)) Held held (us ++ (0 ∷ [])) h) ≡ heldRow Ta ms us p i
+      at i e k = fits-exact (heldRow Ta ms us p i) _
+          (ap (λ (x : Row). fits x (selectsOptional v (build choice (suc (length us)) Held held (us ++ (0 ∷ [])) h)))
+          (sym (exact-row (heldRow Ta ms us p) (2 ^ suc (length us)) i k) ∙ ap (rowAt held) (sym e))
+          ∙ build-agrees v h choice (suc (length us)) l b)
 
-        second : (h : Tree) → H ≡ some h → GatheredOptional m (join union A (join difference H B)) (sizeOptional A + sizeOptional H - 1)
-        second h q =
-            let G = difference-left B (gathered-whole h (subst (OverOptional m) q (marks-over start 1))) (others-over Ta high (2 ^ length ms)) in
-            rw q (rw (G .is) (at-position (omega (arith, size-positive h)) (union-right A (others-over Ta low (2 ^ length ms)) (G .gathered))))
-
-        third : (b d h : Tree) → B ≡ some b → D ≡ some d → H ≡ some h → GatheredOptional m (join difference B (join difference D H)) (sizeOptional B + sizeOptional D + sizeOptional H - 1)
-        third b d h p q r = rw (p, q, r)
-            (at-position (omega (arith, size-positive h)) (record {
-              tree = node difference b (node difference d h);
-              is = refl;
-              gathered =
-                  gathered-right difference b (subst (OverOptional (unmarked m)) p (others-over Ta high (2 ^ length ms)))
-                  (gathered-right difference d (subst (OverOptional (unmarked m)) q (others-over (varies Ta (2 ^ length ms) low) high (2 ^ length ms)))
-                  (gathered-whole h (subst (OverOptional m) r (marks-over start 1))));
-            }))
-
-        go : (s b₀ : Bool) → Ta start ≡ s → Ta high ≡ b₀
-            → GatheredOptional m (cond s (join union A (join difference B H)) (cond b₀ (join union A (join difference H B)) (join difference B (join difference D H))))
-            (cond s (sizeOptional A + sizeOptional B + sizeOptional H - 1) (cond b₀ (sizeOptional A + sizeOptional H - 1) (sizeOptional B + sizeOptional D + sizeOptional H - 1)))
-        go true b₀ p q = let x = some-sometimes (ab p) in let y = some-held true p in first (x .0) (y .0) (x .1) (y .1)
-        go false true p q = let y = some-held false p in second (y .0) (y .1)
-        go false false p q = let x = some-sometimes q in let z = some-varying q in let y = some-held false p in third (x .0) (z .0) (y .0) (x .1) (z .1) (y .1)
-
-  pub constant-gathered : GatheredOptional m (constantTree Ta ms us) (constantHolder Ta ms us)
-  unfolding size Over
-  constant-gathered =
-      let x = getD ms 0 0 in
-      let i = first-mark ms (parts .some-mark) in
-      let e = parts .mark-groups x i in
-      let h : Over m (leaf x (group-holds x e)) = subst (OverOptional m) (single-leaf x e) (single-over m x e (parts .marked x i)) in
-      rw (single-leaf x e) (union-right (expand Ta 0 (2 ^ length ms) us) (others-over Ta 0 (2 ^ length ms))
-      (gathered-whole (node difference (leaf x (group-holds x e)) (leaf x (group-holds x e))) (h, h)))
+      go : (x : Bool) → selectsOptional v h ≡ x → selectsOptional v (build choice (suc (length us)) Held held (us ++ (0 ∷ [])) h) ≡ cond x (Ta (w * rowOf v us + p)) (Ta (w * rowOf v us))
+      go true e = at (rowOf v us + n) (row-last (filled v h) ∙ ap (λ (b : Bool). cond b (rowOf (filled v h) us + n) (rowOf (filled v h) us)) e ∙ ap (λ (k : ℕ). k + n) (filled-row v h us groups))
+          (omega (arith, row-below v us, pow-suc 2 (length us))) ∙ high-value (rowOf v us)
+      go false e = at (rowOf v us) (row-last (filled v h) ∙ ap (λ (b : Bool). cond b (rowOf (filled v h) us + n) (rowOf (filled v h) us)) e ∙ filled-row v h us groups)
+          (omega (arith, row-below v us, pow-suc 2 (length us))) ∙ low-value (rowOf v us) (row-below v us)

@@ -3,6 +3,7 @@
 pub mod Criterion
 pub mod Theorem
 pub mod GatheringLaws
+pub mod HeldLaws
 pub mod JoiningLaws
 pub mod ChoosingLaws
 pub mod HoldingLaws

@@ -14,7 +14,7 @@ use Rattle.tree.specs.InnerGroups.{Distinct}
 use Rattle.tree.proofs.TreeLaws.{or-right, or-cases, in-left, in-right, over-leaves, over-implies}
 use Rattle.tree.proofs.GroupLaws.{in-collect, distinct-collect, collect-longer, leaves-groups}
 use Rattle.table.specs.InnerTable.{valueAt}
-use Rattle.builder.proofs.BuildingLaws.{both}
+use Rattle.forms.proofs.TestLaws.{both}
 use Rattle.columns.specs.InnerChoosing.{choice}
 use Rattle.columns.specs.declared.Choice.{Choice}
 use Rattle.columns.specs.declared.Choice.the-variants.{Never, Constant, Columns}

@@ -11,40 +11,49 @@ use lib.Pow.{pow-pos, pow-add}
 use lib.Dec.{eqb, ltb}
 use borrow.Author.Tests.{lt-ltb, ltb-true, ltb-false, eqb-true, eqb-false, not-false}
 use lib.ListN.{length, getD, take, drop, length-append, length-drop, take-append-drop}
-use lib.Seq.{take-all, take-at, drop-at, length-take-le}
-use Rattle.tree.specs.Tree.{Tree, sign, union, isGroup, postfix, size, mostNodes, Over, leaves, isIn, collect, groups, mostGroups}
+use lib.Seq.{sets, take-all, take-at, drop-at, length-take-le}
+use Rattle.tree.specs.Tree.{Tree, sign, union, difference, isGroup, postfix, size, mostNodes, Over, leaves, isIn, collect, groups, mostGroups}
 use Rattle.tree.specs.InnerGroups.{Distinct, leavesIn}
 use Rattle.tree.specs.Parse.{treeOf}
 use Rattle.tree.specs.Writing.{over}
 use Rattle.tree.specs.InnerWriting.{Wrote}
-use Rattle.tree.proofs.TreeLaws.{postfix-length, equivalent-refl, over-implies, or-cases, in-right, group-most}
+use Rattle.tree.proofs.TreeLaws.{postfix-length, size-positive, equivalent-refl, over-implies, or-cases, in-right, group-most}
 use Rattle.tree.proofs.GroupLaws.{is-in-here, in-later, in-collect, distinct-collect, distinct-split, collect-begins, collect-distinct, distinct-most, leaves-groups, groups-leaves, over-collect, leaves-postfix}
 use Rattle.tree.proofs.ParseLaws.{IsTree, tree-of-sound, postfix-injective}
-use Rattle.tree.proofs.WritingLaws.{wrote-over}
+use Rattle.tree.proofs.WritingLaws.{wrote-over, wrote-take}
 use Rattle.table.specs.InnerTable.{rowCount, table, rowsOf, Listed}
 use Rattle.table.proofs.TableLaws.{Tabled, table-at, rows-most}
-use Rattle.builder.specs.InnerBuilding.{postfixOptional, mostExpanded}
-use Rattle.columns.specs.InnerJoining.{treeFor, holderFor}
+use Rattle.tree.specs.Pass.{entryOf}
+use Rattle.steps.specs.InnerSteps.{choose}
+use Rattle.steps.specs.declared.Holder.the-variants.{Absent}
+use Rattle.builder.specs.InnerBuilding.{postfixOptional, sizeOptional, join, single, build, mostBuilt}
+use Rattle.builder.proofs.ReadyLaws.{Buildable, ready, less-one}
+use Rattle.builder.proofs.SizeLaws.{join-size, leaf-size, build-size}
+use Rattle.columns.specs.InnerJoining.{firstRows, columnTable, holderTree, columnsTree, constantTree, treeFor}
 use Rattle.columns.specs.InnerChoosing.{choice}
-use Rattle.columns.specs.Inner.{Scanned, Room, ReadyFor, Joined}
+use Rattle.columns.specs.Inner.{Scanned, Room, ColumnsReady, ConstantReady, ReadyFor}
 use Rattle.columns.specs.declared.Choice.{Choice}
 use Rattle.columns.specs.declared.Choice.the-variants.{Never, Constant, Columns}
 use Rattle.gather.specs.Gathering.{Gathered}
 use Rattle.gather.specs.InnerHolding.{status}
-use Rattle.gather.specs.Inner.{MarkedParts, Collected, BuiltFor, Ordered}
+use Rattle.gather.specs.Inner.{MarkedParts, Collected, Ordered}
 use Rattle.gather.specs.Answer.{badMark, groupsFault, treeFault, gatherFault, GatheredTo, GathersTree}
-use Rattle.gather.specs.InnerGathered.{treeBy, rearranged, gatheredBy, Returned}
+use Rattle.gather.specs.InnerGathered.{treeBy, rearranged, gatheredBy, namedBy, Returned}
+use Rattle.gather.specs.declared.Status.{Status}
 use Rattle.gather.specs.declared.Status.the-variants.{Free, Mixed, All, Held}
 use Rattle.gather.specs.declared.Gathering.{Gathering}
 use Rattle.gather.specs.declared.Gathering.the-variants.{Done, Refused}
 use Rattle.gather.proofs.GatheringLaws.{fillings-cannot}
-use Rattle.gather.proofs.ChoosingLaws.{Result, Verdict, verdict, both-false}
+use Rattle.gather.proofs.ChoosingLaws.{ColumnTables, Result, Verdict, verdict, both-false}
 use Rattle.gather.proofs.HoldingLaws.{Names, status-gathered}
-use Rattle.gather.proofs.GatheredLaws.{returned-tree, returned-none, returned-as}
+use Rattle.gather.proofs.GatheredLaws.{holder-of, returned-tree, returned-none, returned-as}
 
 -- ---- sizes
-most-power : (k : ℕ) → mostExpanded k + 5 ≡ 5 * 2 ^ k
-unfolding mostExpanded
+single-small : (x : ℕ) → sizeOptional (single x) ≤ 1
+single-small x = leaf-size (entryOf x)
+
+most-power : (k : ℕ) → mostBuilt k + 5 ≡ 5 * 2 ^ k
+unfolding mostBuilt
 most-power zero = refl
 most-power (suc k) = let h = most-power k in omega (arith, pow-suc 2 k)
 
@@ -54,6 +63,10 @@ module _ {list gs : List ℕ} {m : ℕ} (o : Ordered list gs m) where
 
   pub rest-all : take (length gs - m) (drop m gs) ≡ drop m gs
   rest-all = take-all (length gs - m) (drop m gs) (omega (arith, length-drop m gs))
+
+  pub all-wrote : (T : ℕ → Bool) (c : Choice) {out out′ : List ℕ} {count : ℕ}
+      → Wrote out 0 out′ count (postfixOptional (treeFor T (take m gs) (take (length gs - m) (drop m gs)) c)) → Wrote out 0 out′ count (postfixOptional (treeFor T (take m gs) (drop m gs) c))
+  all-wrote T c {out} {out′} {count} f = subst (λ (us : List ℕ). Wrote out 0 out′ count (postfixOptional (treeFor T (take m gs) us c))) rest-all f
 
   module _ (w columns : ℕ) (ew : w ≡ 2 ^ m) (ec : columns ≡ 2 ^ (length gs - m)) where
     pub width-is : w ≡ 2 ^ length (take m gs)
@@ -75,26 +88,20 @@ module _ {list gs : List ℕ} {m : ℕ} (o : Ordered list gs m) where
         let l = mul-le-mul-left w q in
         record { positive = p; whole = (columns, refl); most = total-most; low-below = p; high-below = p; inside = omega (arith, mul-one w) }
 
-    pub room : (n : ℕ) → mostNodes ≤ n → Room (take m gs) (drop m gs) w columns 0 0 0 n
-    room n h =
-        let p : 0 < w = omega (arith, ew, pow-pos m) in
-        let d : rowCount ≡ w * 2 ^ (mostGroups - m)
-        = ap (λ (k : ℕ). 2 ^ k) (let e : mostGroups ≡ m + (mostGroups - m) = omega (arith, o .within, o .most) in e) ∙ pow-add 2 m (mostGroups - m) ∙ ap (λ (x : ℕ). x * 2 ^ (mostGroups - m)) (sym ew) in
-        let k : length (drop m gs) ≤ mostGroups = omega (arith, length-drop m gs, o .most) in
-        let l : length (take m gs) ≤ mostGroups = omega (arith, marks-length, o .within, o .most) in
-        record {
-          width = width-is;
-          count = count-is;
-          most = total-most;
-          divides = (2 ^ (mostGroups - m), d);
-          low-below = p;
-          high-below = p;
-          inside = let e = scanned .inside in omega (arith, total-most);
-          mark-groups = o .parts .mark-groups;
-          other-groups = o .parts .other-groups;
-          some-mark = o .parts .some-mark;
-          space = omega (arith, most-power (length (drop m gs)), most-power (length (take m gs)), rows-most (length (drop m gs)) k, rows-most (length (take m gs)) l);
-        }
+    few-marks : length (take m gs) ≤ mostGroups
+    few-marks = omega (arith, marks-length, o .within, o .most)
+
+    few-others : length (drop m gs) + 1 ≤ mostGroups
+    few-others = omega (arith, length-drop m gs, o .most, marks-length, o .parts .some-mark, o .within)
+
+    pub room : (n : ℕ) → mostNodes ≤ n → Room (take m gs) (drop m gs) w columns n
+    room n h = record {
+      width = width-is;
+      count = count-is;
+      most = total-most;
+      some-mark = o .parts .some-mark;
+      space = omega (arith, most-power (length (drop m gs)), most-power (length (take m gs)), rows-most (length (drop m gs)) (omega (arith, few-others)), rows-most (length (take m gs)) few-marks);
+    }
 
     -- what the choice says of the given tree
     module _ (t : Tree) (e : list ≡ postfix t) (rows : List Bool) (er : rows ≡ table gs t) (c : Choice) (q : c ≡ choice (rowsOf rows) w (w * columns)) where
@@ -110,66 +117,122 @@ module _ {list gs : List ℕ} {m : ℕ} (o : Ordered list gs m) where
           (ap₂ (λ (x y : ℕ). choice (rowsOf rows) x (x * y)) (sym width-is) (sym count-is) ∙ sym q)
           (verdict (rowsOf rows) (take m gs) (drop m gs) (o .parts) t tabled over-all)
 
-      pub ready-for : ReadyFor (rowsOf rows) (take m gs) (drop m gs) w c
-      ready-for = subst (λ (x : ℕ). ReadyFor (rowsOf rows) (take m gs) (drop m gs) x c) (sym width-is) (go c judgement)
+      columns-ready : (p start : ℕ) → ColumnTables (rowsOf rows) (take m gs) (drop m gs) p start → ColumnsReady (rowsOf rows) (take m gs) (drop m gs) p start
+      columns-ready p start T = record {
+        row = T .row;
+        inside = T .inside;
+        column = ready few-marks (T .column);
+        table = ready (omega (arith, length-append (drop m gs) (0 ∷ []), few-others)) (T .held);
+        holder = T .holder;
+      }
+
+      constant-ready : Buildable Absent (firstRows (rowsOf rows) (take m gs) (drop m gs)) (drop m gs) → ConstantReady (rowsOf rows) (take m gs) (drop m gs)
+      constant-ready b = record { mark-groups = o .parts .mark-groups; table = ready (omega (arith, few-others)) b }
+
+      pub ready-for : ReadyFor (rowsOf rows) (take m gs) (drop m gs) c
+      ready-for = go c judgement
         where
-          go : (k : Choice) → Verdict (isIn (take m gs)) (rowsOf rows) (take m gs) (drop m gs) t k → ReadyFor (rowsOf rows) (take m gs) (drop m gs) (2 ^ length (take m gs)) k
+          go : (k : Choice) → Verdict (isIn (take m gs)) (rowsOf rows) (take m gs) (drop m gs) t k → ReadyFor (rowsOf rows) (take m gs) (drop m gs) k
           go Never v = tt
-          go Constant v = tt
-          go (Columns low high start) v = v .ready
+          go Constant v = constant-ready (v .tables)
+          go (Columns low high start) v = columns-ready (low + high) start (v .tables)
 
-      -- a choice that is made has its tree
-      result : (c ≡ Never → ⊥) → Result (isIn (take m gs)) (rowsOf rows) (take m gs) (drop m gs) t c
-      result = go c judgement
-        where
-          go : (k : Choice) → Verdict (isIn (take m gs)) (rowsOf rows) (take m gs) (drop m gs) t k → (k ≡ Never → ⊥) → Result (isIn (take m gs)) (rowsOf rows) (take m gs) (drop m gs) t k
-          go Never v n = absurd (n refl)
-          go Constant v n = v
-          go (Columns low high start) v n = v
+      -- how large its tree is
+      tree-small : (k : Choice) → ReadyFor (rowsOf rows) (take m gs) (drop m gs) k → sizeOptional (treeFor (rowsOf rows) (take m gs) (drop m gs) k) ≤ mostNodes
+      unfolding constantTree columnsTree holderTree
+      tree-small Never r = omega arith
+      tree-small Constant r =
+          let x = single (getD (take m gs) 0 0) in
+          let a = build-size choose (length (drop m gs)) none (r .table) refl tt in
+          omega (
+            arith,
+            join-size union (build choose (length (drop m gs)) Absent (firstRows (rowsOf rows) (take m gs) (drop m gs)) (drop m gs) none) (join difference x x),
+            join-size difference x x,
+            single-small (getD (take m gs) 0 0),
+            a,
+            room mostNodes (omega arith) .space,
+          )
+      tree-small (Columns low high start) r =
+          let h = build choose (length (take m gs)) Absent (columnTable (rowsOf rows) (take m gs) (drop m gs) start) (take m gs) none in
+          let a = build-size choose (length (take m gs)) none (r .column) refl tt in
+          let b = build-size choose (suc (length (drop m gs))) h (r .table) (omega (arith, length-append (drop m gs) (0 ∷ []))) (r .holder) in
+          omega (arith, a, b, less-one (length (drop m gs)), room mostNodes (omega arith) .space)
 
-      -- and that tree is the one named
+      -- the tree is the one named
       tree-is : treeBy gs m t ≡ treeFor (rowsOf rows) (take m gs) (drop m gs) c
       tree-is =
           ap (λ (r : List Bool). treeFor (rowsOf r) (take m gs) (drop m gs) (choice (rowsOf r) (2 ^ m) (2 ^ length gs))) (sym er)
           ∙ ap (treeFor (rowsOf rows) (take m gs) (drop m gs)) (ap₂ (choice (rowsOf rows)) (sym ew) (sym total-is) ∙ sym q)
 
-      module _ (out out′ : List ℕ) (space : mostNodes ≤ length out) where
-        gathered-to : (n : c ≡ Never → ⊥) (count holder : ℕ)
-            → Joined (treeFor (rowsOf rows) (take m gs) (drop m gs) c) (holderFor (rowsOf rows) (take m gs) (drop m gs) c) out out′ count holder
-            → GatheredTo t (take m gs) out out′ count holder
-        gathered-to n count holder j =
-            let r = result n in
-            let f : Wrote out 0 out′ count (postfix (r .tree)) = subst (λ (x : Option Tree). Wrote out 0 out′ count (postfixOptional x)) (r .is) (j .wrote) in
-            let s : size (r .tree) ≤ mostNodes = omega (
-              arith,
-              r .small,
-              room (length out) space .space,
-              most-power (length (drop m gs)),
-              most-power (length (take m gs)),
-              rows-most (length (drop m gs)) (omega (arith, length-drop m gs, o .most)),
-              rows-most (length (take m gs)) (omega (arith, marks-length, o .within, o .most)),
-            ) in
-            record {
-              result = r .tree;
-              unchanged = λ p g. absurd (o .not-gathered t p e g);
-              equivalent = r .equivalent;
-              gathered = subst (Gathered (isIn (take m gs)) (r .tree)) (sym (j .held)) (r .gathered);
-              own = over-implies (λ g h. o .own t e g (subst (λ (xs : List ℕ). isIn xs g ≡ true) (take-append-drop m gs) h)) (r .tree) (r .own);
-              most = s;
-              counted = omega (arith, f .ends, postfix-length (r .tree));
-              written = wrote-over f (omega (arith, postfix-length (r .tree)));
-            }
+      module _ (out out′ : List ℕ) (space : mostNodes ≤ length out) (count : ℕ) (wrote : Wrote out 0 out′ count (postfixOptional (treeFor (rowsOf rows) (take m gs) (drop m gs) c))) where
+        -- a choice that is made has its tree
+        result : (count ≡ 0 → ⊥) → Result (isIn (take m gs)) (rowsOf rows) (take m gs) (drop m gs) t c
+        result = go c judgement (wrote .ends)
+          where
+            go : (k : Choice) → Verdict (isIn (take m gs)) (rowsOf rows) (take m gs) (drop m gs) t k → count ≡ 0 + length (postfixOptional (treeFor (rowsOf rows) (take m gs) (drop m gs) k)) → (count ≡ 0 → ⊥)
+                → Result (isIn (take m gs)) (rowsOf rows) (take m gs) (drop m gs) t k
+            go Never v l n = absurd (n (omega arith))
+            go Constant v l n = v
+            go (Columns low high start) v l n = v
 
-        pub gathers-tree : (g : Gathering) → BuiltFor (rowsOf rows) (take m gs) (drop m gs) c out out′ g → GathersTree t (take m gs) out out′ g
-        unfolding BuiltFor GathersTree
-        gathers-tree (Done count holder) (j, n) = gathered-to n count holder j
-        gathers-tree (Refused n) (a, b, d) =
-            (a, b, fillings-cannot (subst (Verdict (isIn (take m gs)) (rowsOf rows) (take m gs) (drop m gs) t) d judgement))
+        module _ (n : count ≡ 0 → ⊥) where
+          tree-wrote : Wrote out 0 out′ count (postfix (result n .tree))
+          tree-wrote = subst (λ (x : Option Tree). Wrote out 0 out′ count (postfixOptional x)) (result n .is) wrote
 
-        pub returns-tree : (g : Gathering) → BuiltFor (rowsOf rows) (take m gs) (drop m gs) c out out′ g → Returned (take m gs) (treeBy gs m t) out out′ g
-        unfolding BuiltFor gathered-to
-        returns-tree (Done count holder) (j, n) = returned-tree (gathered-to n count holder j) (tree-is ∙ result n .is)
-        returns-tree (Refused n) (a, b, d) = returned-none a b (tree-is ∙ ap (treeFor (rowsOf rows) (take m gs) (drop m gs)) d)
+          small : size (result n .tree) ≤ mostNodes
+          small = subst (λ (x : Option Tree). sizeOptional x ≤ mostNodes) (result n .is) (tree-small c ready-for)
+
+          front : take count out′ ≡ postfix (result n .tree)
+          front = wrote-take tree-wrote (omega (arith, small, postfix-length (result n .tree)))
+
+          pub inside : count ≤ length out′
+          inside = omega (arith, tree-wrote .ends, tree-wrote .same, small, postfix-length (result n .tree))
+
+          pub written-tree : Listed (take count out′)
+          written-tree = (result n .tree, front, omega (arith, ap length front, small, postfix-length (result n .tree)))
+
+          gathered-to : (s : Status) → ((u : Tree) → take count out′ ≡ postfix u → s ≡ status (isIn (take m gs)) 0 u) → GatheredTo t (take m gs) out out′ count (namedBy s)
+          gathered-to s named = record {
+            result = result n .tree;
+            unchanged = λ p g. absurd (o .not-gathered t p e g);
+            equivalent = result n .equivalent;
+            gathered = subst (Gathered (isIn (take m gs)) (result n .tree)) (holder-of (take m gs) (result n .gathered) ∙ sym (ap namedBy (named (result n .tree) front))) (result n .gathered);
+            own = over-implies (λ g h. o .own t e g (subst (λ (xs : List ℕ). isIn xs g ≡ true) (take-append-drop m gs) h)) (result n .tree) (result n .own);
+            most = small;
+            counted = omega (arith, tree-wrote .ends, postfix-length (result n .tree));
+            written = wrote-over tree-wrote (omega (arith, small, postfix-length (result n .tree)));
+          }
+
+          pub gathers-done : (s : Status) (holder : ℕ) → ((u : Tree) → take count out′ ≡ postfix u → s ≡ status (isIn (take m gs)) 0 u) → holder ≡ namedBy s → GathersTree t (take m gs) out out′ (Done count holder)
+          unfolding GathersTree
+          gathers-done s holder named h = subst (GatheredTo t (take m gs) out out′ count) (sym h) (gathered-to s named)
+
+          pub returns-done : (s : Status) (holder : ℕ) → ((u : Tree) → take count out′ ≡ postfix u → s ≡ status (isIn (take m gs)) 0 u) → holder ≡ namedBy s → Returned (take m gs) (treeBy gs m t) out out′ (Done count holder)
+          unfolding gathered-to
+          returns-done s holder named h =
+              subst (λ (k : ℕ). Returned (take m gs) (treeBy gs m t) out out′ (Done count k)) (sym h) (returned-tree (gathered-to s named) (tree-is ∙ result n .is))
+
+        -- none is made
+        none-is : count ≡ 0 → c ≡ Never
+        none-is z = go c judgement (wrote .ends)
+          where
+            absurd-tree : {o : Option Tree} {u : Tree} {X : Type 0} → o ≡ some u → count ≡ 0 + length (postfixOptional o) → X
+            absurd-tree {o} {u} e l = absurd (omega (arith, ap (λ (x : Option Tree). length (postfixOptional x)) e, postfix-length u, size-positive u))
+
+            go : (k : Choice) → Verdict (isIn (take m gs)) (rowsOf rows) (take m gs) (drop m gs) t k → count ≡ 0 + length (postfixOptional (treeFor (rowsOf rows) (take m gs) (drop m gs) k)) → k ≡ Never
+            go Never v l = refl
+            go Constant v l = absurd-tree (v .is) l
+            go (Columns low high start) v l = absurd-tree (v .is) l
+
+        unchanged : c ≡ Never → out′ ≡ out
+        unchanged d = wrote .list ∙ ap (λ (k : Choice). sets out 0 (postfixOptional (treeFor (rowsOf rows) (take m gs) (drop m gs) k))) d
+
+        pub gathers-none : count ≡ 0 → GathersTree t (take m gs) out out′ (Refused 19)
+        unfolding GathersTree
+        gathers-none z = (refl, unchanged (none-is z), fillings-cannot (subst (Verdict (isIn (take m gs)) (rowsOf rows) (take m gs) (drop m gs) t) (none-is z) judgement))
+
+        pub returns-none : count ≡ 0 → Returned (take m gs) (treeBy gs m t) out out′ (Refused 19)
+        returns-none z = returned-none refl (unchanged (none-is z)) (tree-is ∙ ap (treeFor (rowsOf rows) (take m gs) (drop m gs)) (none-is z))
 
 -- ---- nothing at fault
 -- marks that are not bad
@@ -370,13 +433,7 @@ unfolding copied
 copied-returned t q s w (inl e) = returned-as t (Held _) e (returned-tree (copied t q s w (inl e)) refl)
 copied-returned t q s w (inr e) = returned-as t (All _) e (returned-tree (copied t q s w (inr e)) refl)
 
--- ---- choices differ
-pub not-constant : Constant ≡ Never → ⊥
-not-constant e = let z : _≡_ {A = ℕ} 0 1 = cc in omega arith
-
-pub not-columns : {low high start : ℕ} → Columns low high start ≡ Never → ⊥
-not-columns {low} {high} {start} e = let z : _≡_ {A = ℕ} 0 1 = cc in omega arith
-
+-- ---- statuses differ
 pub not-free : (k : ℕ) → Names Free k → ⊥
 not-free k (inl e) = let z : _≡_ {A = ℕ} 0 1 = cc in omega arith
 not-free k (inr e) = let z : _≡_ {A = ℕ} 0 1 = cc in omega arith

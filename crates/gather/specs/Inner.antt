@@ -6,13 +6,7 @@ use Prim.Native.Nat.{ℕ, _<_, _≤_}
 use lib.ListN.{length, take, drop}
 use Rattle.tree.specs.Tree.{Tree, isGroup, postfix, Over, isIn, groups, mostGroups}
 use Rattle.tree.specs.InnerGroups.{Distinct}
-use Rattle.columns.specs.InnerJoining.{treeFor, holderFor}
-use Rattle.columns.specs.Inner.{Joined}
-use Rattle.columns.specs.declared.Choice.{Choice}
-use Rattle.columns.specs.declared.Choice.the-variants.{Never}
 use Rattle.gather.specs.Gathering.{Gathered}
-use Rattle.gather.specs.declared.Gathering.{Gathering}
-use Rattle.gather.specs.declared.Gathering.the-variants.{Done, Refused}
 
 -- ms and us are groups, each once, ms marked by m and us not
 pub record MarkedParts (m : ℕ → Bool) (ms us : List ℕ) : Type 0 where
@@ -28,12 +22,6 @@ pub record MarkedParts (m : ℕ → Bool) (ms us : List ℕ) : Type 0 where
 pub record Collected (gs list : List ℕ) (count : ℕ) : Type 0 where
   pub fits : count ≤ mostGroups → take count list ≡ gs
   pub more : mostGroups < count → mostGroups < length gs
-
--- ---- the whole
--- the choice's tree was written, or there is none
-unfoldable pub BuiltFor : (ℕ → Bool) → List ℕ → List ℕ → Choice → List ℕ → List ℕ → Gathering → Type 0
-BuiltFor T ms us c out out′ (Done nodes holder) = Joined (treeFor T ms us c) (holderFor T ms us c) out out′ nodes holder × (c ≡ Never → ⊥)
-BuiltFor T ms us c out out′ (Refused n) = (n ≡ 19) × (out′ ≡ out) × (c ≡ Never)
 
 -- the list is a tree's that is not gathered for the first m groups of gs, and gs are its groups
 pub record Ordered (list gs : List ℕ) (m : ℕ) : Type 0 where

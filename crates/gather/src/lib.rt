@@ -8,18 +8,21 @@ ghost use lib.ListN.{length, take};
 ghost use Rattle.tree.specs.Tree.{Tree, postfix, isIn, collect, mostNodes, mostGroups};
 ghost use Rattle.tree.specs.Parse.{treeOf};
 ghost use Rattle.tree.specs.InnerGroups.{leavesIn};
-ghost use Rattle.table.specs.InnerTable.{rowCount, rowsOf, Listed};
+ghost use Rattle.tree.specs.InnerWriting.{Wrote};
+ghost use Rattle.table.specs.InnerTable.{rowsOf, Listed};
+ghost use Rattle.builder.specs.InnerBuilding.{postfixOptional};
+ghost use Rattle.columns.specs.InnerJoining.{treeFor};
 ghost use Rattle.columns.specs.Inner.{Room, ReadyFor};
 ghost use Rattle.gather.specs.Gathering.{Gathered};
 ghost use Rattle.gather.specs.InnerHolding.{merged, statusOf, status};
-ghost use Rattle.gather.specs.Inner.{Collected, BuiltFor, Ordered};
+ghost use Rattle.gather.specs.Inner.{Collected, Ordered};
 ghost use Rattle.gather.specs.Answer.{badMark, gatherFault, GathersTree, Gathers};
-ghost use Rattle.gather.specs.InnerGathered.{treeBy, rearranged, gatheredBy, Returns, GathersBy};
+ghost use Rattle.gather.specs.InnerGathered.{treeBy, rearranged, gatheredBy, namedBy, Returns, GathersBy};
 use columns::Choice;
 use columns::build_columns;
 use columns::build_constant;
 use columns::choose;
-use columns::power;
+use forms::power;
 use table::ROWS;
 use tree::MOST_GROUPS;
 
@@ -208,7 +211,7 @@ fn fault_of(list: &[u16], marks: &[u16], room: usize) -> u16
 
 // ---- the whole
 
-// The tree for a choice, or none.
+// Writes the tree for a choice, and returns its nodes: 0 where there is none.
 fn build(
     t: &[bool; ROWS],
     choice: Choice,
@@ -217,28 +220,36 @@ fn build(
     w: usize,
     columns: usize,
     out: &mut [u16],
-) -> Gathering
-    requires { ⌜ Room (now marks) (now others) w columns 0 0 0 (length (now out)) ⌝ }
-    requires { ⌜ ReadyFor (rowsOf (now t)) (now marks) (now others) w choice ⌝ }
-    requires { ⌜ length (now t) ≤ rowCount ⌝ }
-    ensures { λ r. ⌜ BuiltFor (rowsOf (now (t .entry))) (now (marks .entry)) (now (others .entry)) choice (now (out .entry)) (now (out .exit)) r ⌝ }
+) -> usize
+    requires { ⌜ Room (now marks) (now others) w columns (length (now out)) ⌝ }
+    requires { ⌜ ReadyFor (rowsOf (now t)) (now marks) (now others) choice ⌝ }
+    ensures { λ r. ⌜ Wrote (now (out .entry)) 0 (now (out .exit)) r (postfixOptional (treeFor (rowsOf (now (t .entry))) (now (marks .entry)) (now (others .entry)) choice)) ⌝ }
 {
     match choice {
-        Choice::Never => Gathering::Refused(CANNOT_BE_GATHERED),
-        Choice::Constant => {
-            let b = build_constant(t, marks, others, w, columns, out);
-            Gathering::Done {
-                nodes: b.nodes,
-                holder: b.holder,
-            }
-        }
-        Choice::Columns { low, high, start } => {
-            let b = build_columns(t, marks, others, w, columns, low, high, start, out);
-            Gathering::Done {
-                nodes: b.nodes,
-                holder: b.holder,
-            }
-        }
+        Choice::Never => 0,
+        Choice::Constant => build_constant(t, marks, others, w, columns, out),
+        Choice::Columns { low, high, start } => build_columns(
+            t,
+            marks,
+            others,
+            w,
+            columns,
+            low + high,
+            start,
+            out,
+        ),
+    }
+}
+
+// The holder's position that a status names.
+fn named_by(status: Status) -> usize
+    ensures { λ r. ⌜ r ≡ namedBy status ⌝ }
+{
+    match status {
+        Status::Free => 0,
+        Status::Mixed => 0,
+        Status::All(k) => k,
+        Status::Held(k) => k,
     }
 }
 
@@ -254,7 +265,13 @@ fn gather_ordered(list: &[u16], groups: &[u16], m: usize, out: &mut [u16]) -> Ga
     let w = power(m);
     let columns = power(groups.len() - m);
     let choice = choose(&t, w, w * columns);
-    build(&t, choice, &groups[..m], &groups[m..], w, columns, out)
+    let nodes = build(&t, choice, &groups[..m], &groups[m..], w, columns, out);
+    if nodes == 0 {
+        return Gathering::Refused(CANNOT_BE_GATHERED);
+    }
+    let status = holding(&out[..nodes], &groups[..m]);
+    let holder = named_by(status);
+    Gathering::Done { nodes, holder }
 }
 
 // Gathers a tree that is not gathered.

@@ -1,4 +1,4 @@
-// Gathers 01's samples (vii) to (x), a tree for each other way of building one, trees that are gathered already, trees at the limits,
+// Gathers 01's samples (vii) to (x), trees for other ways of building one, trees that are gathered already, trees at the limits,
 // and what is refused with each number, the first fault first. Before each case every number of the buffer is 60000. A line has the
 // case; the number answered, the new tree's length and its holder's position; whether the buffer behind the tree is as before; and the
 // tree's first entries.
@@ -126,7 +126,7 @@ fn samples() {
     show(b"(x)", &[1, 1, 2, 65002, 65002], &[1]);
 }
 
-// The two ways of building that (viii) and (x) do not take, and a tree that is gathered already.
+// Columns that are all constant, columns that fall, and a tree that is gathered already.
 fn others() {
     show(
         b"constant columns",
@@ -139,6 +139,20 @@ fn others() {
         &[1],
     );
     show(b"gathered already", &[3, 1, 2, 65001, 65002], &[2, 1]);
+}
+
+// Trees of four groups whose gathered tree has each group once: the holder stands in the second part, and in the first.
+fn each_once() {
+    show(
+        b"4 - (3 - holder)",
+        &[4, 3, 1, 65002, 2, 65002, 65002],
+        &[1, 2],
+    );
+    show(
+        b"(holder U 4) - 3",
+        &[1, 4, 65001, 2, 65001, 3, 65002],
+        &[1, 2],
+    );
 }
 
 // 11 alone, and before 12.
@@ -225,6 +239,7 @@ fn too_long() {
 fn main() {
     samples();
     others();
+    each_once();
     short_buffers();
     no_trees();
     many_groups();

@@ -109,7 +109,7 @@ unfolding tabulate
 length-tabulate f zero i = refl
 length-tabulate f (suc n) i = ap suc (length-tabulate f n (suc i))
 
-tabulate-at : (f : ℕ → Bool) (n i j : ℕ) → j < n → getD (tabulate f n i) j false ≡ f (i + j)
+pub tabulate-at : (f : ℕ → Bool) (n i j : ℕ) → j < n → getD (tabulate f n i) j false ≡ f (i + j)
 unfolding tabulate
 tabulate-at f zero i j h = absurd (omega arith)
 tabulate-at f (suc n) i zero h = ap f (omega arith)

@@ -4,14 +4,15 @@
 //! bench PROGRAM    PROGRAM: the key program; the reference's own is looked for beside this one
 
 use calls::library;
-use reference::calls::{encode_call, gather_call, lift_call, play_call, CODE_BUFFER, TREE_BUFFER};
+use reference::calls::{compact_gather_call, encode_call, gather_call, lift_call, play_call};
+use reference::calls::{GatherAnswer, CODE_BUFFER, TREE_BUFFER};
 use reference::check::table;
 use reference::coder::encode;
 use reference::gather::rows;
 use reference::lift::lift;
 use reference::player::{LAMP_BYTES, MAXIMUM_PAIRS};
 use reference::random::Random;
-use reference::shape::{gatherable_table, levels_of_nodes, padded, table_tree, Shape};
+use reference::shape::{gatherable_table, levels_of_nodes, padded, table_tree, thirds_table, Shape};
 use reference::sheet::{Sheet, SHEET_NODES};
 use reference::tree::{groups, DIFFERENCE, MAXIMUM_NODES};
 use std::io::Write;
@@ -24,6 +25,8 @@ const KEY_BAR: Duration = Duration::from_millis(20);
 const SHEET_LIFTS: usize = 50;
 const PROGRAM_RUNS: usize = 101;
 const CALL_RUNS: usize = 201;
+
+type GatherCall = fn(&[u16], &[u16], &mut [u16]) -> GatherAnswer;
 
 fn timed(run: &mut dyn FnMut()) -> Duration {
     let began = Instant::now();
@@ -90,6 +93,12 @@ fn gatherable_tree(group_count: usize, nodes: usize, random: &mut Random) -> Vec
     padded(&table_tree(&gatherable_table(group_count, 2, random), &groups), nodes)
 }
 
+/// The dearest split for the compact builder: a table of 7 groups and the holder.
+fn dearest_tree() -> Vec<u16> {
+    let groups: Vec<u16> = (1..=8).collect();
+    padded(&table_tree(&thirds_table(8, 1, &mut Random::new(11)), &groups), MAXIMUM_NODES)
+}
+
 fn any_tree(nodes: usize, groups: u16, random: &mut Random) -> Vec<u16> {
     let groups: Vec<u16> = (1..=groups).collect();
     Shape::mixed().tree(nodes.div_ceil(2), &groups, random)
@@ -137,15 +146,23 @@ fn bench_lifts(random: &mut Random) {
     bench_lift("lift: chain of 8,191 nodes, levels 99", &chain, 0, 99);
 }
 
+/// One gathering; `number` and a tree that is not the given one are due.
+fn bench_gathering(name: &str, tree: &[u16], marks: &[u16], number: u32, own_call: GatherCall) {
+    let (mut out, mut own) = (vec![0; TREE_BUFFER], vec![0; TREE_BUFFER]);
+    let answer = library::gather(tree, marks, &mut out);
+    assert!(answer[0] == number && out != tree);
+    compare(name, CALL_RUNS, &mut || keep(library::gather(tree, marks, &mut out)), &mut || {
+        keep(own_call(tree, marks, &mut own))
+    });
+}
+
 fn bench_gather(random: &mut Random) {
     let gatherable = gatherable_tree(8, MAXIMUM_NODES, random);
     let not_gatherable = any_tree(MAXIMUM_NODES, 8, random);
-    for (name, tree) in [("gather: 8,191 nodes, 8 groups", &gatherable), ("gather: 8,191 nodes, 19", &not_gatherable)] {
-        let (mut out, mut own) = (vec![0; TREE_BUFFER], vec![0; TREE_BUFFER]);
-        compare(name, CALL_RUNS, &mut || keep(library::gather(tree, &[1, 2], &mut out)), &mut || {
-            keep(gather_call(tree, &[1, 2], &mut own))
-        });
-    }
+    bench_gathering("gather: 8,191 nodes, 8 groups", &gatherable, &[1, 2], 0, gather_call);
+    bench_gathering("gather: 8,191 nodes, 19", &not_gatherable, &[1, 2], 19, gather_call);
+    let dearest = dearest_tree();
+    bench_gathering("gather: 8,191 nodes, 1 mark, 7 others", &dearest, &[1], 0, compact_gather_call);
     let groups = groups(&gatherable);
     let by_rows = timed(&mut || keep(rows(&gatherable, &groups)));
     let by_words = timed(&mut || keep(table(&gatherable, &groups)));

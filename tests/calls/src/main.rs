@@ -2,6 +2,7 @@
 //!
 //! calls TARGET    TARGET: a folder to which failing inputs are saved
 
+mod compact_tests;
 mod encode_tests;
 mod faults;
 mod gather_tests;
@@ -33,9 +34,10 @@ fn main() -> ExitCode {
         return ExitCode::FAILURE;
     };
     let mut report = Report::new(PathBuf::from(target));
-    let tests: [(&str, fn(&mut Report)); 4] = [
+    let tests: [(&str, fn(&mut Report)); 5] = [
         ("lift", lift_tests::run),
         ("gather", gather_tests::run),
+        ("compact", compact_tests::run),
         ("encode", encode_tests::run),
         ("play", play_tests::run),
     ];

@@ -1,6 +1,7 @@
 //! The four calls with lent buffers: the answer as numbers, and the buffer as 01 leaves it.
 
 use crate::coder::{encode, INSTRUCTION_NUMBERS};
+use crate::compact;
 use crate::gather::gather;
 use crate::lift::lift;
 use crate::player::{play, LAMP_BYTES};
@@ -41,11 +42,21 @@ pub fn lift_call(tree: &[u16], position: usize, levels: usize, out: &mut [u16]) 
     }
 }
 
-pub fn gather_call(tree: &[u16], marks: &[u16], out: &mut [u16]) -> GatherAnswer {
-    match written(out, TREE_BUFFER, SHORT_TREE_BUFFER, || gather(tree, marks)) {
+fn gathered(out: &mut [u16], call: impl FnOnce() -> Result<(Vec<u16>, usize), Refusal>) -> GatherAnswer {
+    match written(out, TREE_BUFFER, SHORT_TREE_BUFFER, call) {
         Ok((length, holder)) => [0, length, holder as u32],
         Err(number) => [number.into(), 0, 0],
     }
+}
+
+/// The gathering with the plain builder.
+pub fn gather_call(tree: &[u16], marks: &[u16], out: &mut [u16]) -> GatherAnswer {
+    gathered(out, || gather(tree, marks))
+}
+
+/// The gathering with the compact builder.
+pub fn compact_gather_call(tree: &[u16], marks: &[u16], out: &mut [u16]) -> GatherAnswer {
+    gathered(out, || compact::gather(tree, marks))
 }
 
 pub fn encode_call(tree: &[u16], out: &mut [u16]) -> EncodeAnswer {

@@ -63,7 +63,7 @@ fn closure_has(rows: &[bool], marked: usize) -> bool {
 }
 
 /// A tree, or none for the set that is always empty.
-type Built = Option<Vec<u16>>;
+pub type Built = Option<Vec<u16>>;
 
 fn join(operator: u16, mut left: Vec<u16>, right: Vec<u16>) -> Built {
     left.extend(right);
@@ -71,14 +71,14 @@ fn join(operator: u16, mut left: Vec<u16>, right: Vec<u16>) -> Built {
     Some(left)
 }
 
-fn union(left: Built, right: Built) -> Built {
+pub fn union(left: Built, right: Built) -> Built {
     match (left, right) {
         (Some(left), Some(right)) => join(UNION, left, right),
         (left, right) => left.or(right),
     }
 }
 
-fn difference(left: Built, right: Built) -> Built {
+pub fn difference(left: Built, right: Built) -> Built {
     match (left, right) {
         (Some(left), Some(right)) => join(DIFFERENCE, left, right),
         (left, _) => left,
@@ -139,8 +139,11 @@ fn build_gathered(rows: &[bool], marks: &[u16], others: &[u16]) -> Vec<u16> {
     built.expect("a holder is never empty")
 }
 
-/// The gathered tree and its holder's position, or 12, 17, 18 or 19.
-pub fn gather(tree: &[u16], marks: &[u16]) -> Result<(Vec<u16>, usize), Refusal> {
+/// Makes the gathered tree of a function whose varying columns are equal: its rows, the marks and the other groups.
+pub type Builder = fn(&[bool], &[u16], &[u16]) -> Vec<u16>;
+
+/// The gathered tree, as this builder makes it, and its holder's position, or 12, 17, 18 or 19.
+pub fn gather_by(tree: &[u16], marks: &[u16], build: Builder) -> Result<(Vec<u16>, usize), Refusal> {
     let nodes = Nodes::parse(tree).ok_or(NOT_A_TREE)?;
     let groups = groups(tree);
     if groups.len() > MAXIMUM_GROUPS {
@@ -161,7 +164,12 @@ pub fn gather(tree: &[u16], marks: &[u16]) -> Result<(Vec<u16>, usize), Refusal>
     if !gatherable {
         return Err(NOT_GATHERABLE);
     }
-    let tree = build_gathered(rows, marks, &others);
+    let tree = build(rows, marks, &others);
     let position = holder(&Nodes::parse(&tree).expect("a tree"), marks).expect("a holder");
     Ok((tree, position))
+}
+
+/// The gathered tree of the plain builder and its holder's position, or 12, 17, 18 or 19.
+pub fn gather(tree: &[u16], marks: &[u16]) -> Result<(Vec<u16>, usize), Refusal> {
+    gather_by(tree, marks, build_gathered)
 }

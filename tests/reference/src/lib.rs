@@ -4,6 +4,8 @@ pub mod calls;
 pub mod check;
 pub mod closure;
 pub mod coder;
+pub mod compact;
+pub mod forms;
 pub mod gather;
 pub mod key;
 pub mod key_check;

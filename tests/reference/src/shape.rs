@@ -1,7 +1,7 @@
 //! Random trees of many shapes, and trees put together by hand.
 
 use crate::random::Random;
-use crate::tree::{Node, Nodes, Operator, DIFFERENCE, UNION};
+use crate::tree::{groups, Node, Nodes, Operator, DIFFERENCE, UNION};
 
 /// `count` different groups; small and large numbers both occur.
 pub fn some_groups(count: usize, random: &mut Random) -> Vec<u16> {
@@ -117,12 +117,24 @@ fn row_tree(row: usize, groups: &[u16]) -> Vec<u16> {
     outside.iter().fold(tree, |tree, &place| difference(&tree, &[groups[place]]))
 }
 
+/// All groups less all groups: it selects nothing.
+fn nothing(groups: &[u16]) -> Vec<u16> {
+    let all = groups[1..].iter().fold(vec![groups[0]], |tree, &group| union(&tree, &[group]));
+    difference(&all, &all)
+}
+
 /// A tree for the table of a function that is false in row 0: all groups less all groups, and a
 /// tree for each row. It has every group, and is not gathered for any marks but all groups.
 pub fn table_tree(table: &[bool], groups: &[u16]) -> Vec<u16> {
-    let all = groups[1..].iter().fold(vec![groups[0]], |tree, &group| union(&tree, &[group]));
     let rows = (1..table.len()).filter(|&row| table[row]);
-    rows.fold(difference(&all, &all), |tree, row| union(&tree, &row_tree(row, groups)))
+    rows.fold(nothing(groups), |tree, row| union(&tree, &row_tree(row, groups)))
+}
+
+/// An equivalent tree in which the groups come in another order; it is not gathered for any marks but all groups.
+pub fn scrambled(tree: &[u16], random: &mut Random) -> Vec<u16> {
+    let mut order = groups(tree);
+    random.shuffle(&mut order);
+    union(&nothing(&order), tree)
 }
 
 /// A random table over so many groups, marked ones first, in which the varying columns are equal.
@@ -137,6 +149,23 @@ pub fn gatherable_table(groups: usize, marked: usize, random: &mut Random) -> Ve
         _ => column.clone(),
     });
     columns.flatten().collect()
+}
+
+/// A random table over so many groups, marked ones first: each column is 0, 1 or one that varies, a third each,
+/// and row 0 is 0.
+pub fn thirds_table(groups: usize, marked: usize, random: &mut Random) -> Vec<bool> {
+    loop {
+        let varying: Vec<bool> = (0..1 << marked).map(|_| random.one_in(2)).collect();
+        let columns = (0..1 << (groups - marked)).map(|_| match random.below(3) {
+            0 => vec![false; 1 << marked],
+            1 => vec![true; 1 << marked],
+            _ => varying.clone(),
+        });
+        let table: Vec<bool> = columns.flatten().collect();
+        if varying.contains(&!varying[0]) && !table[0] {
+            return table;
+        }
+    }
 }
 
 /// An equivalent tree of exactly so many nodes: the first leaf becomes a union of itself.

@@ -1,4 +1,5 @@
 //! The reference behind the names that the verified static library exports, to try the tests with.
+//! It gathers with the compact builder, so that every tree is the verified one's.
 //! A slice passes as a pointer and then a length.
 
 use reference::calls;
@@ -36,7 +37,7 @@ pub unsafe extern "C" fn gather_call(
     answer_length: usize,
 ) {
     let (tree, marks) = (from_raw_parts(tree, tree_length), from_raw_parts(marks, marks_length));
-    let numbers = calls::gather_call(tree, marks, from_raw_parts_mut(out, out_length));
+    let numbers = calls::compact_gather_call(tree, marks, from_raw_parts_mut(out, out_length));
     from_raw_parts_mut(answer, answer_length).copy_from_slice(&numbers);
 }
 

@@ -1,5 +1,5 @@
 use native.Mathlib.Nat.{mod-le, mod-lt}
-use Rattle.columns.proofs.BuildLaws.{scanned-at, choice-constant, choice-true, choice-false}
+use Rattle.columns.proofs.ColumnLaws.{scanned-at, choice-constant, choice-true, choice-false}
 use borrow.Author.Needs.{needs}
 use Rattle.columns.proofs.choose.Statement.{statement}
 use Rattle.columns.proofs.choose.Tie as tie

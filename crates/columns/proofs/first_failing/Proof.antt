@@ -1,9 +1,11 @@
 use mathlib.Core.Path.{_≡_, sym, _∙_}
 use Prim.Native.Nat.{_≤_, _-_}
 use native.Mathlib.Omega.{arith}
-use Rattle.columns.specs.InnerChoosing.{agrees, firstFailing}
+use Rattle.columns.specs.InnerChoosing.{agrees}
 use Rattle.table.specs.InnerTable.{rowsOf}
-use Rattle.columns.proofs.BuildLaws.{agrees-inside, failing-turn, failing-stop, failing-end, failing-start}
+use Rattle.forms.specs.InnerSearch.{firstFailing}
+use Rattle.forms.proofs.SearchLaws.{failing-turn, failing-stop, failing-end, failing-start}
+use Rattle.columns.proofs.ColumnLaws.{agrees-inside}
 use Rattle.columns.proofs.first_failing.Statement.{statement}
 use Rattle.columns.proofs.first_failing.Tie as tie
 

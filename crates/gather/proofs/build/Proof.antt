@@ -1,9 +1,8 @@
-use Rattle.columns.specs.Inner.{ReadyFor}
-use Rattle.gather.specs.Inner.{BuiltFor}
 use mathlib.Core.Path.{subst}
+use native.Mathlib.Omega.{arith}
+use Rattle.tree.proofs.WritingLaws.{wrote-nothing}
 use Rattle.table.specs.InnerTable.{rowsOf}
-use Rattle.columns.proofs.BuildLaws.{room-for}
-use Rattle.gather.proofs.WholeLaws.{not-constant, not-columns}
+use Rattle.columns.specs.Inner.{ReadyFor}
 use borrow.Author.Needs.{needs}
 use Rattle.gather.proofs.build.Statement.{statement}
 use Rattle.gather.proofs.build.Tie as tie
@@ -15,35 +14,41 @@ enum-told-2 : tie.Need-enum-told-2
 enum-told-2 c = search needs
 
 build-constant-requires : tie.Need-build-constant-requires
-build-constant-requires c κs = search needs
+build-constant-requires c κs =
+    let args = c .before .before .before .before .before .before .args in
+    let pre = c .before .before .before .before .before .before .pre in
+    (pre .0, subst (ReadyFor (rowsOf (args .t .now)) (args .marks .now) (args .others .now)) (c .before .enum-told2 .given .1) (pre .1))
 
 enum-known-choice : tie.Need-enum-known-choice
 enum-known-choice c = search needs
 
+add-build-columns : tie.Need-add-build-columns
+add-build-columns c =
+    let args = c .before .before .before .before .before .before .args in
+    let pre = c .before .before .before .before .before .before .pre in
+    let ready = subst (ReadyFor (rowsOf (args .t .now)) (args .marks .now) (args .others .now)) (c .before .choice .given .1) (pre .1) in
+    omega (arith, ready .row, pre .0 .width)
+
 build-columns-requires : tie.Need-build-columns-requires
-build-columns-requires c κs = let a = c .before .before .before .before .before .before .before .args in let p = c .before .before .before .before .before .before .before .pre in let R = subst (ReadyFor (rowsOf (a .t .now)) (a .marks .now) (a .others .now) (a .w)) (c .before .before .choice .given .1) (p .1 .0) in (room-for (p .0) R, (R, p .1 .1))
+build-columns-requires c κs =
+    let args = c .before .before .before .before .before .before .before .args in
+    let pre = c .before .before .before .before .before .before .before .pre in
+    (pre .0, subst (ReadyFor (rowsOf (args .t .now)) (args .marks .now) (args .others .now)) (c .before .before .choice .given .1) (pre .1))
 
 returns : tie.Need-returns
-unfolding BuiltFor
-returns c = search needs
+returns c = rw (c .enum-told .given .1) (wrote-nothing _ _)
 
 same-length : tie.Need-same-length
 same-length c = search needs
 
 returns-2 : tie.Need-returns-2
-unfolding BuiltFor
-returns-2 c =
-    let enum-told2 = c .before .before .before .before .enum-told2 in
-    rw (enum-told2 .given .1) (c .before .before .build-constant .ensures, not-constant)
+returns-2 c = rw (c .before .before .before .before .enum-told2 .given .1) (c .before .before .build-constant .ensures)
 
 same-length-2 : tie.Need-same-length-2
 same-length-2 c = search needs
 
 returns-3 : tie.Need-returns-3
-unfolding BuiltFor
-returns-3 c =
-    let choice = c .before .before .before .before .before .choice in
-    rw (choice .given .1) (c .before .before .build-columns .ensures, not-columns)
+returns-3 c = rw (c .before .before .before .before .before .choice .given .1) (c .before .before .build-columns .ensures)
 
 pub build-spec : {M : Type 1} → statement M
 build-spec =
@@ -53,6 +58,7 @@ build-spec =
     enum-told-2
     build-constant-requires
     enum-known-choice
+    add-build-columns
     build-columns-requires
     returns
     same-length

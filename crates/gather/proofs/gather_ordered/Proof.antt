@@ -1,9 +1,8 @@
-use mathlib.Core.Path.{sym, ap}
+use mathlib.Core.Path.{sym}
 use native.Mathlib.Omega.{arith}
-use lib.ListN.{length}
-use Rattle.table.specs.InnerTable.{table}
-use Rattle.table.proofs.TableLaws.{length-table}
-use Rattle.gather.proofs.WholeLaws.{the-same, marks-length, rest-all, total-most, scanned, room, ready-for, gathers-tree, returns-tree}
+use lib.Seq.{length-take-le}
+use Rattle.table.specs.InnerTable.{rowsOf}
+use Rattle.gather.proofs.WholeLaws.{the-same, marks-length, rest-all, all-wrote, total-most, scanned, room, ready-for, inside, written-tree, gathers-done, returns-done, gathers-none, returns-none}
 use borrow.Author.Needs.{needs}
 use Rattle.gather.proofs.gather_ordered.Statement.{statement}
 use Rattle.gather.proofs.gather_ordered.Tie as tie
@@ -23,7 +22,7 @@ power-requires-2 c κs = search needs
 mul-choose : tie.Need-mul-choose
 mul-choose c =
     let pre = c .before .before .before .before .before .before .before .pre in
-    let o = pre .1 .0 in omega (arith, total-most o _ _ (c .before .before .power .ensures) (c .before .power2 .ensures))
+    omega (arith, total-most (pre .1 .0) _ _ (c .before .before .power .ensures) (c .before .power2 .ensures))
 
 choose-requires : tie.Need-choose-requires
 choose-requires c κs =
@@ -31,9 +30,7 @@ choose-requires c κs =
     scanned (pre .1 .0) _ _ (c .before .before .power .ensures) (c .before .power2 .ensures)
 
 slice-aggregate-build : tie.Need-slice-aggregate-build
-slice-aggregate-build c =
-    let pre = c .before .before .before .before .before .before .before .before .before .before .pre in
-    sym (marks-length (pre .1 .0))
+slice-aggregate-build c = sym (marks-length (c .before .before .before .before .before .before .before .before .before .before .pre .1 .0))
 
 mul-build : tie.Need-mul-build
 mul-build c = search needs
@@ -49,26 +46,82 @@ part-build-end c = search needs
 
 build-requires : tie.Need-build-requires
 build-requires c κs =
-    let table = c .before .before .before .before .before .before .before .before .table in
-    let power = c .before .before .before .before .before .before .before .power in
-    let power2 = c .before .before .before .before .before .before .power2 in
-    let choose = c .before .before .before .before .choose in
-    let a = c .before .before .before .before .before .before .before .before .before .before .before .before .args in let p = c .before .before .before .before .before .before .before .before .before .before .before .before .pre in let o = p .1 .0 in let w = power .ensures in let n = power2 .ensures in rw (rest-all o) (room o _ _ w n _ (p .1 .1), (ready-for o _ _ w n (p .0 .0) (p .0 .1) _ (table .ensures (p .0 .0) (p .0 .1)) _ (choose .ensures), omega (arith, ap length (table .ensures (p .0 .0) (p .0 .1)), length-table (a .groups .now) (p .0 .0))))
+    let pre = c .before .before .before .before .before .before .before .before .before .before .before .before .pre in
+    let o = pre .1 .0 in
+    let w = c .before .before .before .before .before .before .before .power .ensures in
+    let n = c .before .before .before .before .before .before .power2 .ensures in
+    let t = pre .0 .0 in
+    rw (rest-all o) (room o _ _ w n _ (pre .1 .1), ready-for o _ _ w n t (pre .0 .1) _ (c .before .before .before .before .before .before .before .before .table .ensures t (pre .0 .1)) _ (c .before .before .before .before .choose .ensures))
 
 same-length : tie.Need-same-length
 same-length c = search needs
 
 returns : tie.Need-returns
 returns c =
-    let table = c .before .before .before .before .before .before .before .before .before .before .before .table in
-    let power = c .before .before .before .before .before .before .before .before .before .before .power in
-    let power2 = c .before .before .before .before .before .before .before .before .before .power2 in
-    let choose = c .before .before .before .before .before .before .before .choose in
-    let p = c .before .before .before .before .before .before .before .before .before .before .before .before .before .before .before .pre in
-    let o = p .1 .0 in
-    let built = rw (rest-all o) at (c .before .before .build .ensures) in (
-      λ t e. gathers-tree o _ _ (power .ensures) (power2 .ensures) t e _ (table .ensures t e) _ (choose .ensures) _ _ (p .1 .1) _ built,
-      λ t q. let e = the-same q in returns-tree o _ _ (power .ensures) (power2 .ensures) t e _ (table .ensures t e) _ (choose .ensures) _ _ (p .1 .1) _ built,
+    let pre = c .before .before .before .before .before .before .before .before .before .before .before .before .before .before .before .before .pre in
+    let o = pre .1 .0 in
+    let w = c .before .before .before .before .before .before .before .before .before .before .before .power .ensures in
+    let n = c .before .before .before .before .before .before .before .before .before .before .power2 .ensures in
+    let rows = c .before .before .before .before .before .before .before .before .before .before .before .before .table .ensures in
+    let choice = c .before .before .before .before .before .before .before .before .choose .ensures in
+    let wrote = all-wrote o (rowsOf (c .before .before .before .before .before .before .before .before .before .before .before .before .table .result)) (c .before .before .before .before .before .before .before .before .choose .result) (c .before .before .before .build .ensures) in (
+      λ t e. gathers-none o _ _ w n t e _ (rows t e) _ choice _ _ (pre .1 .1) _ wrote (c .if1 .taken),
+      λ t q. returns-none o _ _ w n t (the-same q) _ (rows t (the-same q)) _ choice _ _ (pre .1 .1) _ wrote (c .if1 .taken),
+    )
+
+slice-reshare-prefix-holding : tie.Need-slice-reshare-prefix-holding
+slice-reshare-prefix-holding c =
+    let pre = c .before .before .before .before .before .before .before .before .before .before .before .before .before .before .before .before .pre in
+    let o = pre .1 .0 in
+    let w = c .before .before .before .before .before .before .before .before .before .before .before .power .ensures in
+    let n = c .before .before .before .before .before .before .before .before .before .before .power2 .ensures in
+    let rows = c .before .before .before .before .before .before .before .before .before .before .before .before .table .ensures in
+    let choice = c .before .before .before .before .before .before .before .before .choose .ensures in
+    let wrote = all-wrote o (rowsOf (c .before .before .before .before .before .before .before .before .before .before .before .before .table .result)) (c .before .before .before .before .before .before .before .before .choose .result) (c .before .before .before .build .ensures) in
+    inside o _ _ w n (pre .0 .0) (pre .0 .1) _ (rows (pre .0 .0) (pre .0 .1)) _ choice _ _ (pre .1 .1) _ wrote (c .if1 .left)
+
+slice-aggregate-holding : tie.Need-slice-aggregate-holding
+slice-aggregate-holding c =
+    let pre = c .before .before .before .before .before .before .before .before .before .before .before .before .before .before .before .before .before .pre in
+    let o = pre .1 .0 in
+    let w = c .before .before .before .before .before .before .before .before .before .before .before .before .power .ensures in
+    let n = c .before .before .before .before .before .before .before .before .before .before .before .power2 .ensures in
+    let rows = c .before .before .before .before .before .before .before .before .before .before .before .before .before .table .ensures in
+    let choice = c .before .before .before .before .before .before .before .before .before .choose .ensures in
+    let wrote = all-wrote o (rowsOf (c .before .before .before .before .before .before .before .before .before .before .before .before .before .table .result)) (c .before .before .before .before .before .before .before .before .before .choose .result) (c .before .before .before .before .build .ensures) in
+    sym (length-take-le _ _ (inside o _ _ w n (pre .0 .0) (pre .0 .1) _ (rows (pre .0 .0) (pre .0 .1)) _ choice _ _ (pre .1 .1) _ wrote (c .before .if1 .left)))
+
+slice-aggregate-holding-2 : tie.Need-slice-aggregate-holding-2
+slice-aggregate-holding-2 c = sym (marks-length (c .before .before .before .before .before .before .before .before .before .before .before .before .before .before .before .before .before .before .pre .1 .0))
+
+holding-requires : tie.Need-holding-requires
+holding-requires c κs =
+    let pre = c .before .before .before .before .before .before .before .before .before .before .before .before .before .before .before .before .before .before .pre in
+    let o = pre .1 .0 in
+    let w = c .before .before .before .before .before .before .before .before .before .before .before .before .before .power .ensures in
+    let n = c .before .before .before .before .before .before .before .before .before .before .before .before .power2 .ensures in
+    let rows = c .before .before .before .before .before .before .before .before .before .before .before .before .before .before .table .ensures in
+    let choice = c .before .before .before .before .before .before .before .before .before .before .choose .ensures in
+    let wrote = all-wrote o (rowsOf (c .before .before .before .before .before .before .before .before .before .before .before .before .before .before .table .result)) (c .before .before .before .before .before .before .before .before .before .before .choose .result) (c .before .before .before .before .before .build .ensures) in
+    written-tree o _ _ w n (pre .0 .0) (pre .0 .1) _ (rows (pre .0 .0) (pre .0 .1)) _ choice _ _ (pre .1 .1) _ wrote (c .before .before .if1 .left)
+
+named-by-requires : tie.Need-named-by-requires
+named-by-requires c κs = search needs
+
+same-length-2 : tie.Need-same-length-2
+same-length-2 c = search needs
+
+returns-2 : tie.Need-returns-2
+returns-2 c =
+    let pre = c .before .before .before .before .before .before .before .before .before .before .before .before .before .before .before .before .before .before .before .before .pre in
+    let o = pre .1 .0 in
+    let w = c .before .before .before .before .before .before .before .before .before .before .before .before .before .before .before .power .ensures in
+    let n = c .before .before .before .before .before .before .before .before .before .before .before .before .before .before .power2 .ensures in
+    let rows = c .before .before .before .before .before .before .before .before .before .before .before .before .before .before .before .before .table .ensures in
+    let choice = c .before .before .before .before .before .before .before .before .before .before .before .before .choose .ensures in
+    let wrote = all-wrote o (rowsOf (c .before .before .before .before .before .before .before .before .before .before .before .before .before .before .before .before .table .result)) (c .before .before .before .before .before .before .before .before .before .before .before .before .choose .result) (c .before .before .before .before .before .before .before .build .ensures) in (
+      λ t e. gathers-done o _ _ w n t e _ (rows t e) _ choice _ _ (pre .1 .1) _ wrote (c .before .before .before .before .if1 .left) _ _ (c .before .holding .ensures) (c .named-by .ensures),
+      λ t q. returns-done o _ _ w n t (the-same q) _ (rows t (the-same q)) _ choice _ _ (pre .1 .1) _ wrote (c .before .before .before .before .if1 .left) _ _ (c .before .holding .ensures) (c .named-by .ensures),
     )
 
 pub gather-ordered-spec : {M : Type 1} → statement M
@@ -88,4 +141,11 @@ gather-ordered-spec =
     part-build-end
     build-requires
     same-length
-    returns)
+    returns
+    slice-reshare-prefix-holding
+    slice-aggregate-holding
+    slice-aggregate-holding-2
+    holding-requires
+    named-by-requires
+    same-length-2
+    returns-2)

@@ -1,0 +1,59 @@
+-- No tree or a tree: union and difference that know the empty case, and a group's leaf.
+use mathlib.Core.Path.{_≡_, refl, sym, ap, subst, _∙_}
+use mathlib.Core.Bool.{Bool, true, false, _&&_}
+use mathlib.Core.Option.{Option, some, none}
+use Prim.Native.Nat.{ℕ}
+use lib.Dec.{T}
+use Rattle.tree.specs.Tree.{Operator, union, difference, Tree, leaf, isGroup, apply, selects, Over}
+use Rattle.tree.proofs.TreeLaws.{or-false}
+use Rattle.tree.proofs.PassLaws.{entry-leaf}
+use Rattle.builder.specs.InnerBuilding.{join, leafOf, single}
+
+-- ---- no tree or a tree: what selects nothing needs no tree
+-- what it selects
+abbrev pub selectsOptional : (ℕ → Bool) → Option Tree → Bool
+selectsOptional v none = false
+selectsOptional v (some t) = selects v t
+
+-- every group in it, if there is a tree, passes m
+abbrev pub OverOptional : (ℕ → Bool) → Option Tree → Type 0
+OverOptional m none = Unit {0}
+OverOptional m (some t) = Over m t
+
+-- ---- union and difference that know the empty case
+and-true : (a : Bool) → a ≡ a && true
+and-true true = refl
+and-true false = refl
+
+pub join-selects : (v : ℕ → Bool) (o : Operator) (a b : Option Tree) → selectsOptional v (join o a b) ≡ apply o (selectsOptional v a) (selectsOptional v b)
+unfolding selects
+join-selects v union none b = refl
+join-selects v union (some a) none = sym (or-false (selects v a))
+join-selects v union (some a) (some b) = refl
+join-selects v difference none b = refl
+join-selects v difference (some a) none = and-true (selects v a)
+join-selects v difference (some a) (some b) = refl
+
+pub join-over : (m : ℕ → Bool) (o : Operator) (a b : Option Tree) → OverOptional m a → OverOptional m b → OverOptional m (join o a b)
+unfolding Over
+join-over m union none b p q = q
+join-over m union (some a) none p q = p
+join-over m union (some a) (some b) p q = (p, q)
+join-over m difference none b p q = tt
+join-over m difference (some a) none p q = p
+join-over m difference (some a) (some b) p q = (p, q)
+
+-- ---- a group's leaf
+pub group-holds : (x : ℕ) → isGroup x ≡ true → T (isGroup x)
+group-holds x e = subst T (sym e) tt
+
+pub single-leaf : (x : ℕ) (e : isGroup x ≡ true) → single x ≡ some (leaf x (group-holds x e))
+single-leaf x e = ap leafOf (entry-leaf x (group-holds x e))
+
+pub single-selects : (v : ℕ → Bool) (x : ℕ) → isGroup x ≡ true → selectsOptional v (single x) ≡ v x
+unfolding selects
+single-selects v x e = ap (selectsOptional v) (single-leaf x e)
+
+pub single-over : (m : ℕ → Bool) (x : ℕ) → isGroup x ≡ true → m x ≡ true → OverOptional m (single x)
+unfolding Over
+single-over m x e h = subst (OverOptional m) (sym (single-leaf x e)) h

@@ -1,0 +1,5 @@
+-- The laws of the definitions in specs/, for this crate and those above it.
+pub mod SearchLaws
+pub mod TestLaws
+pub mod FormLaws
+pub mod SplitLaws
