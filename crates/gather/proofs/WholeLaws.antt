@@ -5,9 +5,9 @@ use mathlib.Core.Logic.{inl, inr}
 use mathlib.Core.List.{List, [], _∷_, _++_}
 use mathlib.Core.Option.{Option, some, none}
 use Prim.Native.Nat.{ℕ, zero, suc, _+_, _-_, _*_, _^_, _<_, _≤_}
-use native.Mathlib.Nat.{mul-le-mul-left, pow-suc, mul-one}
+use native.Mathlib.Nat.{mul-add, mul-le-mul-right, mul-le-mul-left, pow-suc, mul-one}
 use native.Mathlib.Omega.{arith}
-use lib.Pow.{pow-pos, pow-add}
+use lib.Pow.{pow-pos, pow-add, pow-mono}
 use lib.Dec.{eqb, ltb}
 use borrow.Author.Tests.{lt-ltb, ltb-true, ltb-false, eqb-true, eqb-false, not-false}
 use lib.ListN.{length, getD, take, drop, length-append, length-drop, take-append-drop}
@@ -56,6 +56,22 @@ most-power : (k : ℕ) → mostBuilt k + 5 ≡ 5 * 2 ^ k
 unfolding mostBuilt
 most-power zero = refl
 most-power (suc k) = let h = most-power k in omega (arith, pow-suc 2 k)
+
+-- as many nodes as a gathered tree that is built has at most
+abbrev mostGathered : ℕ
+mostGathered = 1277
+
+product-most : (x y : ℕ) → 2 ≤ x → 1 ≤ y → x + 2 * y ≤ x * y + 2
+product-most x y h k =
+    let e : x * y ≡ x * 1 + x * (y - 1) = ap (λ (z : ℕ). x * z) (let q : y ≡ 1 + (y - 1) = omega arith in q) ∙ mul-add x 1 (y - 1) in
+    omega (arith, mul-le-mul-right (y - 1) h, mul-one x)
+
+-- over j marks and k others
+both-most : (j k : ℕ) → 1 ≤ j → 2 ^ j * 2 ^ k ≤ rowCount → (mostBuilt j + 2 * mostBuilt k + 2 ≤ mostGathered) × (mostBuilt k + 4 ≤ mostGathered)
+both-most j k h l =
+    let two : 2 ≤ 2 ^ j = pow-mono h in
+    let p = product-most (2 ^ j) (2 ^ k) two (pow-pos k) in
+    (omega (arith, most-power j, most-power k), omega (arith, most-power j, most-power k))
 
 module _ {list gs : List ℕ} {m : ℕ} (o : Ordered list gs m) where
   pub marks-length : length (take m gs) ≡ m
@@ -137,8 +153,11 @@ module _ {list gs : List ℕ} {m : ℕ} (o : Ordered list gs m) where
           go Constant v = constant-ready (v .tables)
           go (Columns low high start) v = columns-ready (low + high) start (v .tables)
 
+      sizes : (mostBuilt (length (take m gs)) + 2 * mostBuilt (length (drop m gs)) + 2 ≤ mostGathered) × (mostBuilt (length (drop m gs)) + 4 ≤ mostGathered)
+      sizes = both-most (length (take m gs)) (length (drop m gs)) (o .parts .some-mark) (omega (arith, total-most, ap₂ _*_ width-is count-is))
+
       -- how large its tree is
-      tree-small : (k : Choice) → ReadyFor (rowsOf rows) (take m gs) (drop m gs) k → sizeOptional (treeFor (rowsOf rows) (take m gs) (drop m gs) k) ≤ mostNodes
+      tree-small : (k : Choice) → ReadyFor (rowsOf rows) (take m gs) (drop m gs) k → sizeOptional (treeFor (rowsOf rows) (take m gs) (drop m gs) k) ≤ mostGathered
       unfolding constantTree columnsTree holderTree
       tree-small Never r = omega arith
       tree-small Constant r =
@@ -150,13 +169,13 @@ module _ {list gs : List ℕ} {m : ℕ} (o : Ordered list gs m) where
             join-size difference x x,
             single-small (getD (take m gs) 0 0),
             a,
-            room mostNodes (omega arith) .space,
+            sizes .1,
           )
       tree-small (Columns low high start) r =
           let h = build choose (length (take m gs)) Absent (columnTable (rowsOf rows) (take m gs) (drop m gs) start) (take m gs) none in
           let a = build-size choose (length (take m gs)) none (r .column) refl tt in
           let b = build-size choose (suc (length (drop m gs))) h (r .table) (omega (arith, length-append (drop m gs) (0 ∷ []))) (r .holder) in
-          omega (arith, a, b, less-one (length (drop m gs)), room mostNodes (omega arith) .space)
+          omega (arith, a, b, less-one (length (drop m gs)), sizes .0)
 
       -- the tree is the one named
       tree-is : treeBy gs m t ≡ treeFor (rowsOf rows) (take m gs) (drop m gs) c
@@ -180,7 +199,7 @@ module _ {list gs : List ℕ} {m : ℕ} (o : Ordered list gs m) where
           tree-wrote = subst (λ (x : Option Tree). Wrote out 0 out′ count (postfixOptional x)) (result n .is) wrote
 
           small : size (result n .tree) ≤ mostNodes
-          small = subst (λ (x : Option Tree). sizeOptional x ≤ mostNodes) (result n .is) (tree-small c ready-for)
+          small = let q : size (result n .tree) ≤ mostGathered = subst (λ (x : Option Tree). sizeOptional x ≤ mostGathered) (result n .is) (tree-small c ready-for) in omega arith
 
           front : take count out′ ≡ postfix (result n .tree)
           front = wrote-take tree-wrote (omega (arith, small, postfix-length (result n .tree)))

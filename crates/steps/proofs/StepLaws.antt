@@ -157,6 +157,10 @@ pub estimate-none : (k : ℕ) (m : Holder) (t : Table) → k ≡ 0 → 0 ≡ est
 unfolding estimate
 estimate-none k m t e = rw e
 
+pub estimate-one : (m : Holder) (t : Table) (form : Form) (r : ℕ) → form ≡ formOf (firstTop m t) → r ≡ leavesBy form 0 0 → r ≡ estimate 1 m t
+unfolding estimate
+estimate-one m t form r e q = q ∙ ap (λ (f : Form). leavesBy f 0 0) e
+
 -- a table of a variable more
 pub sized-more : {on off : List Bool} {k : ℕ} → Sized on off k → (k ≡ 0 → ⊥) → Sized on off (suc (k - 1))
 sized-more {k = k} s h = let e : suc (k - 1) ≡ k = omega arith in rw e s

@@ -326,6 +326,16 @@ fn leaves_by(form: Form, a: usize, b: usize) -> usize
     }
 }
 
+// The same for one variable, whose parts have none.
+fn estimate_one(on: &[bool], off: &[bool], m: Holder) -> usize
+    requires { ⌜ Sized (now on) (now off) 1 ⌝ }
+    ensures { λ r. ⌜ r ≡ estimate 1 m (tableOf (now (on .entry)) (now (off .entry))) ⌝ }
+{
+    let i = first_top(on, off, m);
+    let form = form_of(i);
+    leaves_by(form, 0, 0)
+}
+
 // Leaves of a tree for a table of k variables, if always the highest is split by the first form that may.
 fn estimate(on: &[bool], off: &[bool], k: usize, m: Holder) -> usize
     requires { ⌜ Sized (now on) (now off) k ⌝ }
@@ -333,6 +343,9 @@ fn estimate(on: &[bool], off: &[bool], k: usize, m: Holder) -> usize
 {
     if k == 0 {
         return 0;
+    }
+    if k == 1 {
+        return estimate_one(on, off, m);
     }
     let i = first_top(on, off, m);
     let form = form_of(i);
