@@ -1,19 +1,19 @@
 -- A built tree agrees with its table, whichever steps are chosen; it is over the variables' groups; and a row that is 1 needs a tree.
 use mathlib.Core.Path.{_≡_, refl, sym, ap, ap₂, subst, _∙_}
-use mathlib.Core.Bool.{Bool, true, false, not, cond, _&&_, _||_, true≢false, false≢true}
+use mathlib.Core.Bool.{Bool, true, false, not, cond, _&&_, _||_, false≢true}
 use mathlib.Core.Logic.{_⊎_, inl, inr}
-use mathlib.Core.List.{List, [], _∷_, _++_}
+use mathlib.Core.List.{List, [], _∷_}
 use mathlib.Core.Option.{Option, some, none}
-use Prim.Native.Nat.{ℕ, zero, suc, _+_, _^_, _<_, _≤_}
+use Prim.Native.Nat.{ℕ, zero, suc, _+_, _^_, _<_}
 use native.Mathlib.Omega.{arith}
 use lib.Dec.{eqb}
 use borrow.Author.Tests.{not-true, not-false}
 use lib.ListN.{length, getD}
-use Rattle.tree.specs.Tree.{union, difference, Tree, isGroup, selects, Over, isIn}
+use Rattle.tree.specs.Tree.{union, difference, Tree, isGroup, isIn}
 use Rattle.tree.specs.InnerGroups.{Distinct}
 use Rattle.table.specs.InnerTable.{filling}
 use Rattle.table.proofs.TableLaws.{rowOf, row-below, row-agree, row-filling}
-use Rattle.forms.specs.InnerForms.{Table, half, rowAt, lowRow, atPair, firstRow, secondRow, firstPart, secondPart, usable, someOn}
+use Rattle.forms.specs.InnerForms.{Table, half, rowAt, lowRow, firstRow, secondRow, firstPart, secondPart, usable, someOn}
 use Rattle.forms.specs.declared.Row.{Row}
 use Rattle.forms.specs.declared.Form.{Form}
 use Rattle.forms.specs.declared.Form.the-variants.{Drop, Less, Plus, ReducedPlus, JoinedLess, LessOutside, ReducedUnion, JoinedDifference}

@@ -8,7 +8,7 @@ use Rattle.tree.proofs.TreeLaws.{or-false}
 use Rattle.forms.proofs.FormLaws.{formValue}
 use Rattle.forms.specs.declared.Form.{Form}
 use Rattle.forms.specs.declared.Form.the-variants.{Drop, Less, Plus, ReducedPlus, JoinedLess, LessOutside, ReducedUnion, JoinedDifference}
-use Rattle.builder.specs.InnerBuilding.{join, leftTree, rightTree, outer, formed}
+use Rattle.builder.specs.InnerBuilding.{leftTree, rightTree, outer, formed}
 use Rattle.builder.proofs.JoinLaws.{selectsOptional, join-selects}
 
 abbrev leftValue : Form → Bool → Bool → Bool

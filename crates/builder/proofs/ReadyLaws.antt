@@ -1,10 +1,10 @@
 -- Every step that is taken is allowed: it leaves tables that trees can be built for, and room.
 use mathlib.Core.Path.{_≡_, refl, sym, ap, ap₂, subst, _∙_}
-use mathlib.Core.Bool.{Bool, true, false, not, cond, _&&_, _||_, true≢false, false≢true}
+use mathlib.Core.Bool.{Bool, true, false, cond, _&&_, false≢true}
 use mathlib.Core.Logic.{_⊎_, inl, inr}
 use mathlib.Core.List.{List, [], _∷_, _++_, append-assoc, append-nil}
 use mathlib.Core.Option.{Option, some}
-use Prim.Native.Nat.{ℕ, zero, suc, _+_, _-_, _*_, _/_, _^_, _<_, _≤_}
+use Prim.Native.Nat.{ℕ, zero, suc, _+_, _-_, _*_, _^_, _<_, _≤_}
 use native.Mathlib.Omega.{arith}
 use lib.Pow.{pow-pos}
 use lib.Dec.{eqb, ltb}
@@ -14,7 +14,7 @@ use lib.Seq.{getD-at, take-append-seam, take-append-le, drop-append-le}
 use Rattle.tree.specs.Tree.{Tree, leaf, isGroup, isIn, mostGroups}
 use Rattle.tree.proofs.TreeLaws.{or-cases, is-in-append, in-left, in-right}
 use Rattle.tree.proofs.GroupLaws.{is-in-here, in-later}
-use Rattle.forms.specs.InnerForms.{Table, half, rowAt, lowRow, atPair, splitBy, mayUse, firstRow, secondRow, firstPart, secondPart, usable}
+use Rattle.forms.specs.InnerForms.{Table, half, rowAt, lowRow, atPair, splitBy, firstRow, secondRow, firstPart, secondPart, usable}
 use Rattle.forms.specs.declared.Row.{Row}
 use Rattle.forms.specs.declared.Form.{Form}
 use Rattle.forms.specs.declared.Form.the-variants.{Drop, Less, Plus, ReducedPlus, JoinedLess, LessOutside, ReducedUnion, JoinedDifference}
@@ -22,7 +22,7 @@ use Rattle.forms.proofs.TestLaws.{both}
 use Rattle.forms.proofs.FormLaws.{leafCount, consistent-rows}
 use Rattle.table.proofs.TableLaws.{length-tabulate}
 use Rattle.steps.proofs.HolderLaws.{keeps-once}
-use Rattle.steps.specs.InnerSteps.{Sized, formCount, formOf, isDrop, keepsHolder, allowedTop, firstTop, firstHolder, secondHolder, stepAt}
+use Rattle.steps.specs.InnerSteps.{formCount, formOf, isDrop, keepsHolder, allowedTop, firstTop, firstHolder, secondHolder, stepAt}
 use Rattle.steps.specs.declared.Holder.{Holder}
 use Rattle.steps.specs.declared.Holder.the-variants.{Absent, Dropped, Held}
 use Rattle.steps.specs.declared.Use.{Use}
@@ -30,8 +30,8 @@ use Rattle.steps.specs.declared.Use.the-variants.{No, Plain, First, Second}
 use Rattle.steps.specs.declared.Step.{Step}
 use Rattle.builder.specs.InnerBuilding.{single, variableTree, without, mostBuilt, mostFor, mostFormed, Variables, HolderReady, Ready, HolderTree}
 use Rattle.builder.proofs.JoinLaws.{group-holds, single-leaf}
-use Rattle.builder.proofs.RowLaws.{around, without-counts, split-row, half-rows, split-rows, split-same, MayUse, may-use, usable-by, low-zero}
-use Rattle.builder.proofs.TakenLaws.{first-allowed, some-allowed, BelowSays, Top, Below, Taken, step-taken}
+use Rattle.builder.proofs.RowLaws.{around, without-counts, split-row, half-rows, split-rows, split-same, may-use, usable-by, low-zero}
+use Rattle.builder.proofs.TakenLaws.{first-allowed, some-allowed, BelowSays, Top, Taken, step-taken}
 
 -- `Ready` without the limit of eight variables
 pub record Buildable (m : Holder) (t : Table) (gs : List ℕ) : Type 0 where

@@ -1,17 +1,16 @@
 -- Rows of a table and of its parts: a row of the table is a row of a part, with the split variable's bit.
 use mathlib.Core.Path.{_≡_, refl, sym, ap, ap₂, subst, _∙_}
-use mathlib.Core.Bool.{Bool, true, false, not, cond, _&&_, false≢true}
-use mathlib.Core.List.{List, [], _∷_, _++_}
-use Prim.Native.Nat.{ℕ, zero, suc, _+_, _-_, _*_, _/_, _%_, _^_, _<_, _≤_}
+use mathlib.Core.Bool.{Bool, true, false, not, cond, false≢true}
+use mathlib.Core.List.{List, _∷_, _++_}
+use Prim.Native.Nat.{ℕ, suc, _+_, _-_, _*_, _/_, _%_, _^_, _<_}
 use native.Mathlib.Nat.{mul-add, mul-left-comm, mod-eq-of-lt, zero-mod, add-mul-mod-self-left, pow-suc}
 use native.Mathlib.Omega.{arith}
 use borrow.Author.Tests.{not-true}
 use lib.ListN.{length, getD, take, drop, take-append-drop}
 use Rattle.tree.proofs.PassLaws.{here}
-use Rattle.table.specs.InnerTable.{tabulate}
 use Rattle.table.proofs.TableLaws.{rowOf, row-below, row-append, tabulate-at, length-tabulate}
 use Rattle.forms.specs.InnerSearch.{allPass}
-use Rattle.forms.specs.InnerForms.{Table, rowAt, lowRow, half, atPair, splitBy, mayUse, firstRow, secondRow, firstPart, secondPart, usable, someOn}
+use Rattle.forms.specs.InnerForms.{Table, rowAt, lowRow, half, atPair, splitBy, mayUse, firstRow, secondRow, usable, someOn}
 use Rattle.forms.specs.declared.Row.{Row}
 use Rattle.forms.specs.declared.Form.{Form}
 use Rattle.forms.proofs.SearchLaws.{all-pass, pass-all}

@@ -1,9 +1,9 @@
 -- Every step that is taken, whichever candidate is chosen, is one of these: the highest variable by a form that may split it, or a
 -- variable below it.
 use mathlib.Core.Path.{_≡_, refl, sym, ap, subst, _∙_}
-use mathlib.Core.Bool.{Bool, true, false, not, cond, _&&_, _||_, true≢false, false≢true}
+use mathlib.Core.Bool.{Bool, true, false, not, cond, false≢true}
 use mathlib.Core.Logic.{_⊎_, inl, inr}
-use Prim.Native.Nat.{ℕ, suc, _+_, _/_, _^_, _<_, _≤_}
+use Prim.Native.Nat.{ℕ, _/_, _^_, _<_, _≤_}
 use native.Mathlib.Omega.{arith}
 use lib.Dec.{ltb}
 use borrow.Author.Tests.{lt-ltb, le-ltb, ltb-true, ltb-false, not-false}
@@ -12,7 +12,7 @@ use Rattle.forms.specs.InnerForms.{Table, half, firstPart, secondPart, usable}
 use Rattle.forms.specs.declared.Form.{Form}
 use Rattle.forms.specs.declared.Form.the-variants.{Drop}
 use Rattle.forms.proofs.SearchLaws.{first-fails}
-use Rattle.steps.specs.InnerSteps.{formCount, formOf, allowedTop, firstTop, canHold, dropsInFirst, besideUse, useBelow, useOf, candidateForm, candidateVariable, candidateUse, stepBy, stepAt}
+use Rattle.steps.specs.InnerSteps.{formCount, formOf, allowedTop, firstTop, canHold, dropsInFirst, useBelow, useOf, candidateForm, candidateVariable, candidateUse, stepBy, stepAt}
 use Rattle.steps.specs.declared.Holder.{Holder}
 use Rattle.steps.specs.declared.Holder.the-variants.{Absent, Dropped, Held}
 use Rattle.steps.specs.declared.Use.{Use}

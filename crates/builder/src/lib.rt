@@ -248,27 +248,43 @@ pub fn build(
         return at;
     }
     let n = k - 1;
-    let len = on.len() / 2;
+    let count = on.len() / 2;
     let turn = turn_of(on, off, m, groups, n);
     let form = turn.form;
     let x = turn.x;
-    let gs = turn.rest;
+    let rest = turn.rest;
     let first = turn.a;
     let a_on = first.on;
     let a_off = first.off;
     let ma = turn.ma;
-    let a = build(&a_on[..len], &a_off[..len], ma, &gs[..n], holder, out, at);
+    let a = build(
+        &a_on[..count],
+        &a_off[..count],
+        ma,
+        &rest[..n],
+        holder,
+        out,
+        at,
+    );
     let left = write_left(form, x, holder, out, at, a);
     let stops = ends_there(form, at == left);
     if stops {
         return left;
     }
-    let mid = write_before(form, x, holder, out, left);
+    let middle = write_before(form, x, holder, out, left);
     let second = turn.b;
     let b_on = second.on;
     let b_off = second.off;
     let mb = turn.mb;
-    let b = build(&b_on[..len], &b_off[..len], mb, &gs[..n], holder, out, mid);
-    let right = write_after(form, x, holder, out, left, mid, b);
+    let b = build(
+        &b_on[..count],
+        &b_off[..count],
+        mb,
+        &rest[..n],
+        holder,
+        out,
+        middle,
+    );
+    let right = write_after(form, x, holder, out, left, middle, b);
     operate(out, at, left, right, outer(form))
 }

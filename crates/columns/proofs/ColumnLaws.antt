@@ -11,16 +11,16 @@ use lib.Dec.{ltb}
 use lib.ListN.{length, getD, set, take, length-take, length-append}
 use lib.Seq.{length-take-le}
 use borrow.Author.Tests.{lt-ltb, le-ltb}
-use Rattle.tree.specs.Tree.{union, difference, sign, Tree, isGroup, postfix, isIn, mostGroups}
+use Rattle.tree.specs.Tree.{union, difference, sign, Tree, isGroup, postfix, mostGroups}
 use Rattle.tree.specs.InnerWriting.{Wrote}
 use Rattle.tree.proofs.WritingLaws.{wrote-then, wrote-as, wrote-take}
-use Rattle.tree.proofs.GroupLaws.{is-in-here}
 use Rattle.table.specs.InnerTable.{rowCount}
 use Rattle.forms.specs.InnerForms.{tableOf}
 use Rattle.forms.proofs.SplitLaws.{Filled, filled-none, filled-more, filled-all}
 use Rattle.steps.specs.InnerSteps.{choose}
 use Rattle.steps.specs.declared.Holder.the-variants.{Absent, Held}
 use Rattle.builder.specs.InnerBuilding.{postfixOptional, join, single, build, mostBuilt, mostFor, Ready, between, Holding}
+use Rattle.builder.proofs.ReadyLaws.{variable-in}
 use Rattle.builder.proofs.JoinLaws.{single-leaf}
 use Rattle.builder.proofs.WritingLaws.{optional-length, wrote-join}
 use Rattle.builder.proofs.SizeLaws.{build-size}
@@ -152,10 +152,6 @@ pub width-positive : {ms us : List ℕ} {w columns room : ℕ} → Room ms us w 
 width-positive {ms} s = omega (arith, s .width, pow-pos (length ms))
 
 -- ---- the constant columns' tree
-pub first-mark : (ms : List ℕ) → 0 < length ms → isIn ms (getD ms 0 0) ≡ true
-first-mark [] h = absurd (omega arith)
-first-mark (x ∷ ms) h = is-in-here x ms
-
 mark-twice : (x : ℕ) → isGroup x ≡ true → x ∷ x ∷ sign difference ∷ [] ≡ postfixOptional (join difference (single x) (single x))
 unfolding postfix
 mark-twice x g = sym (ap (λ (s : Option Tree). postfixOptional (join difference s s)) (single-leaf x g))
@@ -186,7 +182,7 @@ module _ (T : ℕ → Bool) {ms us : List ℕ} {w columns room : ℕ} (s : Room 
     constant-wrote g k =
         let x = getD ms 0 0 in
         wrote-join union A (join difference (single x) (single x)) (λ e z. union-not e) first-wrote
-        (wrote-as g (mark-twice x (q .mark-groups x (first-mark ms (s .some-mark))))) k
+        (wrote-as g (mark-twice x (q .mark-groups x (variable-in ms 0 (s .some-mark))))) k
 
 -- ---- the columns' tree
 module _ (T : ℕ → Bool) {ms us : List ℕ} {w columns room p start : ℕ} (s : Room ms us w columns room) (q : ColumnsReady T ms us p start) where

@@ -96,6 +96,10 @@ firstPart form t step = splitBy (firstRow form) t step
 unfoldable pub secondPart : Form → Table → ℕ → Table
 secondPart form t step = splitBy (secondRow form) t step
 
+-- the first of the row pairs at which the form may not be used; their number if there is none
+abbrev pub firstUnusable : Form → Table → ℕ → ℕ
+firstUnusable form t step = firstFailing (atPair (mayUse form) t step) (half t) 0
+
 -- whether the form may be used at every row, and neither part is 1 at its row 0, where no tree selects anything
 unfoldable pub usable : Form → Table → ℕ → Bool
 usable form t step =

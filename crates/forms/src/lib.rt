@@ -1,12 +1,10 @@
 // Tables whose rows are 0, 1 or free, and the forms by which they are split by one variable.
 ghost use mathlib.Core.Path.{_≡_};
-ghost use mathlib.Core.Bool.{false};
 ghost use mathlib.Core.List.{List};
-ghost use Prim.Native.Nat.{ℕ, _+_, _-_, _%_, _^_, _<_, _≤_, _*_};
-ghost use lib.ListN.{length, getD};
+ghost use Prim.Native.Nat.{_+_, _%_, _^_, _<_, _≤_};
+ghost use lib.ListN.{length};
 ghost use Rattle.tree.specs.Tree.{mostGroups};
-ghost use Rattle.forms.specs.InnerSearch.{firstFailing};
-ghost use Rattle.forms.specs.InnerForms.{inverse, mayUse, firstRow, secondRow, tableOf, rowAt, atPair, half, usable, someOn, Splits, Parted};
+ghost use Rattle.forms.specs.InnerForms.{inverse, mayUse, firstRow, secondRow, tableOf, rowAt, firstUnusable, usable, someOn, Splits, Parted};
 
 // As many rows as a part of a table of 256 rows has.
 pub const HALF_ROWS: usize = 128;
@@ -149,7 +147,8 @@ struct Pair {
 // The rows i and i + step.
 fn pair_at(on: &[bool], off: &[bool], i: usize, step: usize) -> Pair
     requires { ⌜ (i + step < length (now on)) × (length (now off) ≡ length (now on)) ⌝ }
-    ensures { λ r. ⌜ (r .low ≡ rowAt (tableOf (now (on .entry)) (now (off .entry))) i) × (r .high ≡ rowAt (tableOf (now (on .entry)) (now (off .entry))) (i + step)) ⌝ }
+    ensures { λ r. ⌜ r .low ≡ rowAt (tableOf (now (on .entry)) (now (off .entry))) i ⌝ }
+    ensures { λ r. ⌜ r .high ≡ rowAt (tableOf (now (on .entry)) (now (off .entry))) (i + step) ⌝ }
 {
     Pair {
         low: Row {
@@ -177,7 +176,7 @@ fn next_place(k: usize, step: usize) -> usize
 // The first of the row pairs at which the form may not be used; their number if there is none.
 fn first_unusable(on: &[bool], off: &[bool], step: usize, form: Form) -> usize
     requires { ⌜ Splits (now on) (now off) step ⌝ }
-    ensures { λ r. ⌜ r ≡ firstFailing (atPair (mayUse form) (tableOf (now (on .entry)) (now (off .entry))) step) (half (tableOf (now (on .entry)) (now (off .entry)))) 0 ⌝ }
+    ensures { λ r. ⌜ r ≡ firstUnusable form (tableOf (now (on .entry)) (now (off .entry))) step ⌝ }
 {
     let count = on.len() / 2;
     let mut r = 0;

@@ -1,28 +1,29 @@
 -- What a choice means. If every row agrees with A ∪ (B ∩ h), the tree built is equivalent and gathered; if a row does not, its
 -- column and the chosen one are different and neither is constant, which gives the five fillings.
 use mathlib.Core.Path.{_≡_, refl, sym, ap, ap₂, subst, _∙_}
-use mathlib.Core.Bool.{Bool, true, false, not, cond, Bool·beq, _&&_, _||_, true≢false, false≢true}
+use mathlib.Core.Bool.{Bool, true, false, not, cond, Bool·beq, _&&_, _||_, true≢false}
 use mathlib.Core.Logic.{_⊎_, inl, inr}
 use mathlib.Core.List.{List, [], _∷_, _++_}
-use mathlib.Core.Option.{Option, some, none}
+use mathlib.Core.Option.{some, none}
 use Prim.Native.Nat.{ℕ, suc, _+_, _-_, _*_, _/_, _%_, _^_, _<_, _≤_}
-use native.Mathlib.Nat.{mul-comm, div-lt-iff-lt-mul, mul-suc, mul-zero, mul-le-mul-left, mod-eq-of-lt, mod-lt, mod-le, mod-add-div, add-mul-mod-self-left}
+use native.Mathlib.Nat.{mul-suc, mul-zero, mul-le-mul-left, mod-eq-of-lt, mod-lt, mod-le, mod-add-div, add-mul-mod-self-left}
 use native.Mathlib.Omega.{arith}
 use lib.Pow.{pow-pos}
 use lib.Dec.{eqb, ltb}
 use borrow.Author.Tests.{eqb-true, ltb-true, ltb-false}
 use lib.ListN.{length, getD, length-append}
-use Rattle.tree.specs.Tree.{union, difference, Tree, leaf, node, isGroup, size, selects, Over, Equivalent, isIn, mostGroups}
+use Rattle.tree.specs.Tree.{union, difference, Tree, leaf, node, isGroup, size, selects, Over, Equivalent, isIn}
 use Rattle.tree.proofs.TreeLaws.{or-false, is-in-append, or-cases, in-left, in-right, selects-equivalent}
 use Rattle.table.specs.InnerTable.{filling}
 use Rattle.table.proofs.TableLaws.{rowOf, Tabled, row-below, row-append, row-agree, row-filling, selects-row, value-zero}
 use Rattle.forms.proofs.SearchLaws.{Fails, first-fails}
 use Rattle.steps.specs.InnerSteps.{choose, canHold}
-use Rattle.builder.specs.InnerBuilding.{sizeOptional, join, single, variableTree, build, mostBuilt}
+use Rattle.builder.specs.InnerBuilding.{join, single, variableTree, build}
 use Rattle.builder.proofs.JoinLaws.{selectsOptional, OverOptional, join-selects, join-over, single-leaf, single-over, group-holds}
 use Rattle.forms.proofs.TestLaws.{beq-true}
 use Rattle.builder.proofs.ReadyLaws.{Buildable, variable-in}
 use Rattle.builder.proofs.BuildLaws.{group-over, build-over, build-some}
+use Rattle.columns.proofs.ColumnLaws.{row-column}
 use Rattle.columns.specs.InnerJoining.{differs, columnTable, heldTable, firstRows, holderTree, columnsTree, constantTree, treeFor}
 use Rattle.steps.specs.declared.Holder.the-variants.{Absent, Held}
 use Rattle.columns.specs.InnerChoosing.{agrees, failing, settled, chosenAt, choice}
@@ -36,9 +37,6 @@ use Rattle.gather.proofs.HeldLaws.{GatheredSome, Some, union-not, join-
 use Rattle.gather.proofs.JoiningLaws.{plain-buildable, plain-selects, plain-some-on, falls-held, rises-held, held-buildable, held-selects}
 
 -- ---- rows of columns of w rows
-row-column : (w n i : ℕ) → 0 < w → i < w * n → i / w < n
-row-column w n i pos h = div-lt-iff-lt-mul {k = w} {x = i} {y = n} pos .1 (rw (mul-comm n w) h)
-
 place-below : (w k p n : ℕ) → p < w → k < n → p + w * k < w * n
 place-below w k p n h l = let e = mul-le-mul-left w l in omega (arith, mul-suc w k)
 

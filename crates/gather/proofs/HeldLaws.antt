@@ -1,20 +1,20 @@
 -- A tree built with the holder as a variable is gathered: the holder's tree stands in it once, and all other leaves are unmarked.
 use mathlib.Core.Path.{_≡_, refl, sym, ap, ap₂, subst, _∙_}
-use mathlib.Core.Bool.{Bool, true, false, not, cond, _&&_, _||_, true≢false, false≢true}
-use mathlib.Core.Logic.{_⊎_, inl, inr}
+use mathlib.Core.Bool.{Bool, true, false, not, true≢false, false≢true}
+use mathlib.Core.Logic.{inl, inr}
 use mathlib.Core.List.{List, [], _∷_, _++_}
 use mathlib.Core.Option.{Option, some, none}
-use Prim.Native.Nat.{ℕ, zero, suc, _+_, _-_, _^_, _<_, _≤_}
+use Prim.Native.Nat.{ℕ, zero, suc, _+_, _-_, _^_, _<_}
 use native.Mathlib.Omega.{arith}
 use lib.ListN.{length, getD, take, drop, length-append, List·getD-append}
 use lib.Seq.{getD-at}
-use Rattle.tree.specs.Tree.{Operator, union, difference, Tree, node, isGroup, size, Over, isIn}
+use Rattle.tree.specs.Tree.{Operator, union, difference, Tree, node, isGroup, isIn}
 use Rattle.tree.specs.InnerGroups.{Distinct}
 use Rattle.table.specs.InnerTable.{tabulate}
 use Rattle.forms.specs.InnerForms.{Table, half, lowRow, firstPart, secondPart, usable, someOn}
 use Rattle.forms.specs.declared.Form.{Form}
 use Rattle.forms.specs.declared.Form.the-variants.{Drop, Less, Plus, ReducedPlus, JoinedLess, LessOutside, ReducedUnion, JoinedDifference}
-use Rattle.steps.specs.InnerSteps.{keepsHolder, allowedTop, startsWithFirst, dropsInFirst, firstHolder, secondHolder, stepAt}
+use Rattle.steps.specs.InnerSteps.{keepsHolder, allowedTop, dropsInFirst, firstHolder, secondHolder, stepAt}
 use Rattle.steps.specs.declared.Holder.{Holder}
 use Rattle.steps.specs.declared.Holder.the-variants.{Absent, Dropped, Held}
 use Rattle.steps.specs.declared.Use.{Use}
@@ -24,11 +24,11 @@ use Rattle.builder.specs.InnerBuilding.{join, leftTree, rightTree, outer, forme
 use Rattle.forms.proofs.TestLaws.{both}
 use Rattle.builder.proofs.JoinLaws.{OverOptional, join-over}
 use Rattle.builder.proofs.RowLaws.{half-rows, without-counts, usable-by}
-use Rattle.builder.proofs.TakenLaws.{BelowSays, Top, Below, Taken, step-taken}
+use Rattle.builder.proofs.TakenLaws.{BelowSays, Taken, step-taken}
 use Rattle.builder.proofs.ReadyLaws.{Buildable, StepBuildable, step-buildable, top-may, in-without, variable-in, group-tree, without-last, without-below}
 use Rattle.builder.proofs.BuildLaws.{left-over, right-over, group-over, build-over, build-some, build-dropped, dropped-part}
 use Rattle.gather.specs.Gathering.{Gathered}
-use Rattle.gather.proofs.GatheringLaws.{unmarked, gathered-whole, gathered-left, gathered-right}
+use Rattle.gather.proofs.GatheringLaws.{unmarked, gathered-left, gathered-right}
 
 -- ---- gathered, of no tree or a tree
 pub record GatheredSome (m : ℕ → Bool) (o : Option Tree) : Type 0 where

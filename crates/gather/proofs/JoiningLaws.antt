@@ -1,33 +1,32 @@
 -- The tables of the columns: a tree can be built for each, and what it selects.
-use mathlib.Core.Path.{_≡_, refl, sym, ap, ap₂, subst, _∙_}
-use mathlib.Core.Bool.{Bool, true, false, not, cond, Bool·beq, _&&_, _||_, true≢false, false≢true}
+use mathlib.Core.Path.{_≡_, refl, sym, ap, ap₂, _∙_}
+use mathlib.Core.Bool.{Bool, true, false, not, cond, _&&_, false≢true}
 use mathlib.Core.List.{List, [], _∷_, _++_}
-use mathlib.Core.Option.{Option, some}
-use Prim.Native.Nat.{ℕ, suc, _+_, _-_, _*_, _/_, _%_, _^_, _<_, _≤_}
+use mathlib.Core.Option.{Option}
+use Prim.Native.Nat.{ℕ, suc, _+_, _-_, _*_, _%_, _^_, _<_, _≤_}
 use native.Mathlib.Nat.{mod-eq-of-lt, pow-suc, mul-one, mul-zero}
 use native.Mathlib.Omega.{arith}
 use lib.Pow.{pow-pos}
-use lib.Dec.{ltb, eqb}
+use lib.Dec.{ltb}
 use borrow.Author.Tests.{lt-ltb, le-ltb, ltb-true, ltb-false}
-use lib.ListN.{length, getD, length-append, List·getD-eq-default}
+use lib.ListN.{length, length-append, List·getD-eq-default}
 use Rattle.tree.specs.Tree.{Tree, isGroup, isIn}
-use Rattle.table.specs.InnerTable.{tabulate}
 use Rattle.table.proofs.TableLaws.{rowOf, row-below, row-agree, row-append, tabulate-at, length-tabulate}
 use Rattle.forms.specs.InnerForms.{Table, rowAt, lowRow, half, atPair, mayUse, firstRow, secondRow, firstPart, secondPart, usable, someOn}
 use Rattle.forms.specs.declared.Row.{Row}
 use Rattle.forms.specs.declared.Form.{Form}
 use Rattle.forms.specs.declared.Form.the-variants.{Less, Plus, LessOutside}
-use Rattle.steps.specs.InnerSteps.{formCount, formOf, keepsHolder, allowedTop, firstTop, canHold}
+use Rattle.steps.specs.InnerSteps.{formCount, formOf, keepsHolder, firstTop, canHold}
 use Rattle.steps.specs.declared.Holder.{Holder}
 use Rattle.steps.specs.declared.Holder.the-variants.{Absent, Held}
 use Rattle.builder.specs.InnerBuilding.{build}
 use Rattle.builder.proofs.JoinLaws.{selectsOptional}
 use Rattle.forms.proofs.FormLaws.{fits}
-use Rattle.builder.proofs.RowLaws.{split-row, half-rows, split-rows, MayUse, usable-by, some-on}
+use Rattle.builder.proofs.RowLaws.{split-row, half-rows, split-rows, usable-by, some-on}
 use Rattle.builder.proofs.TakenLaws.{some-allowed}
 use Rattle.builder.proofs.ReadyLaws.{Buildable, group-not-zero}
 use Rattle.builder.proofs.BuildLaws.{filled, build-agrees}
-use Rattle.columns.specs.InnerJoining.{exactTable, differs, heldRow, heldTable}
+use Rattle.columns.specs.InnerJoining.{exactTable, heldRow, heldTable}
 
 -- ---- exact tables
 abbrev exactRow : Bool → Row

@@ -6,6 +6,10 @@ use Prim.Native.Nat.{ℕ, _<_, _≤_}
 use lib.ListN.{length, take, drop}
 use Rattle.tree.specs.Tree.{Tree, isGroup, postfix, Over, isIn, groups, mostGroups}
 use Rattle.tree.specs.InnerGroups.{Distinct}
+use Rattle.table.specs.InnerTable.{rowsOf}
+use Rattle.builder.specs.InnerBuilding.{postfixOptional}
+use Rattle.columns.specs.InnerJoining.{treeFor}
+use Rattle.columns.specs.declared.Choice.{Choice}
 use Rattle.gather.specs.Gathering.{Gathered}
 
 -- ms and us are groups, each once, ms marked by m and us not
@@ -22,6 +26,10 @@ pub record MarkedParts (m : ℕ → Bool) (ms us : List ℕ) : Type 0 where
 pub record Collected (gs list : List ℕ) (count : ℕ) : Type 0 where
   pub fits : count ≤ mostGroups → take count list ≡ gs
   pub more : mostGroups < count → mostGroups < length gs
+
+-- the list of a choice's tree; nothing where there is none
+abbrev pub treeList : List Bool → List ℕ → List ℕ → Choice → List ℕ
+treeList t ms us c = postfixOptional (treeFor (rowsOf t) ms us c)
 
 -- the list is a tree's that is not gathered for the first m groups of gs, and gs are its groups
 pub record Ordered (list gs : List ℕ) (m : ℕ) : Type 0 where

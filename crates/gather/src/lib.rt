@@ -10,12 +10,10 @@ ghost use Rattle.tree.specs.Parse.{treeOf};
 ghost use Rattle.tree.specs.InnerGroups.{leavesIn};
 ghost use Rattle.tree.specs.InnerWriting.{Wrote};
 ghost use Rattle.table.specs.InnerTable.{rowsOf, Listed};
-ghost use Rattle.builder.specs.InnerBuilding.{postfixOptional};
-ghost use Rattle.columns.specs.InnerJoining.{treeFor};
 ghost use Rattle.columns.specs.Inner.{Room, ReadyFor};
 ghost use Rattle.gather.specs.Gathering.{Gathered};
 ghost use Rattle.gather.specs.InnerHolding.{merged, statusOf, status};
-ghost use Rattle.gather.specs.Inner.{Collected, Ordered};
+ghost use Rattle.gather.specs.Inner.{Collected, treeList, Ordered};
 ghost use Rattle.gather.specs.Answer.{badMark, gatherFault, GathersTree, Gathers};
 ghost use Rattle.gather.specs.InnerGathered.{treeBy, rearranged, gatheredBy, namedBy, Returns, GathersBy};
 use columns::Choice;
@@ -223,7 +221,7 @@ fn build(
 ) -> usize
     requires { ⌜ Room (now marks) (now others) w columns (length (now out)) ⌝ }
     requires { ⌜ ReadyFor (rowsOf (now t)) (now marks) (now others) choice ⌝ }
-    ensures { λ r. ⌜ Wrote (now (out .entry)) 0 (now (out .exit)) r (postfixOptional (treeFor (rowsOf (now (t .entry))) (now (marks .entry)) (now (others .entry)) choice)) ⌝ }
+    ensures { λ r. ⌜ Wrote (now (out .entry)) 0 (now (out .exit)) r (treeList (now (t .entry)) (now (marks .entry)) (now (others .entry)) choice) ⌝ }
 {
     match choice {
         Choice::Never => 0,

@@ -98,8 +98,8 @@ build-array-share-prefix-a-off t c = given-a (begun t (c .before .before .before
 build-slice-aggregate-build-2 : (t : ℕ) → build-lts.Need-slice-aggregate-build-2 (calls t) (build-at t) build.Post
 build-slice-aggregate-build-2 t c = given-a (begun t (c .before .before .before .before .before .before)) .offs
 
-build-array-share-prefix-gs : (t : ℕ) → build-lts.Need-array-share-prefix-gs (calls t) (build-at t) build.Post
-build-array-share-prefix-gs t c = given-a (begun t (c .before .before .before .before .before .before)) .in-rest
+build-array-share-prefix-rest : (t : ℕ) → build-lts.Need-array-share-prefix-rest (calls t) (build-at t) build.Post
+build-array-share-prefix-rest t c = given-a (begun t (c .before .before .before .before .before .before)) .in-rest
 
 build-slice-aggregate-build-3 : (t : ℕ) → build-lts.Need-slice-aggregate-build-3 (calls t) (build-at t) build.Post
 build-slice-aggregate-build-3 t c = given-a (begun t (c .before .before .before .before .before .before .before)) .others
@@ -140,8 +140,8 @@ build-array-share-prefix-b-off t c = given-b (passed t (c .before .before .befor
 build-slice-aggregate-build-5 : (t : ℕ) → build-lts.Need-slice-aggregate-build-5 (calls t) (build-at t) build.Post
 build-slice-aggregate-build-5 t c = given-b (passed t (c .before .before .before .before .before .before .before) .begun) .offs
 
-build-array-share-prefix-gs-2 : (t : ℕ) → build-lts.Need-array-share-prefix-gs-2 (calls t) (build-at t) build.Post
-build-array-share-prefix-gs-2 t c = given-b (passed t (c .before .before .before .before .before .before .before) .begun) .in-rest
+build-array-share-prefix-rest-2 : (t : ℕ) → build-lts.Need-array-share-prefix-rest-2 (calls t) (build-at t) build.Post
+build-array-share-prefix-rest-2 t c = given-b (passed t (c .before .before .before .before .before .before .before) .begun) .in-rest
 
 build-slice-aggregate-build-6 : (t : ℕ) → build-lts.Need-slice-aggregate-build-6 (calls t) (build-at t) build.Post
 build-slice-aggregate-build-6 t c = given-b (passed t (c .before .before .before .before .before .before .before .before) .begun) .others
@@ -181,7 +181,7 @@ pub +build-spec : {M : Type 1} → statement M
     (build-slice-aggregate-build t)
     (build-array-share-prefix-a-off t)
     (build-slice-aggregate-build-2 t)
-    (build-array-share-prefix-gs t)
+    (build-array-share-prefix-rest t)
     (build-slice-aggregate-build-3 t)
     (build-build-requires t)
     (build-write-left-requires t)
@@ -193,7 +193,7 @@ pub +build-spec : {M : Type 1} → statement M
     (build-slice-aggregate-build-4 t)
     (build-array-share-prefix-b-off t)
     (build-slice-aggregate-build-5 t)
-    (build-array-share-prefix-gs-2 t)
+    (build-array-share-prefix-rest-2 t)
     (build-slice-aggregate-build-6 t)
     (build-build-requires-2 t)
     (build-write-after-requires t)
