@@ -13,9 +13,9 @@ use Rattle.tree.proofs.ParseLaws.{postfix-injective}
 use Rattle.tree.proofs.WritingLaws.{take-over}
 use Rattle.gather.specs.Gathering.{Gathered}
 use Rattle.gather.specs.Answer.{GatheredTo}
-use Rattle.gather.specs.InnerHolding.{status}
+use Rattle.holding.specs.InnerHolding.{status}
 use Rattle.gather.specs.InnerGathered.{gatheredAs, gatheredBy, namedBy, holderOf, Returned}
-use Rattle.gather.specs.declared.Status.{Status}
+use Rattle.holding.specs.declared.Status.{Status}
 use Rattle.gather.specs.declared.Gathering.{Gathering}
 use Rattle.gather.specs.declared.Gathering.the-variants.{Done, Refused}
 use Rattle.gather.proofs.HoldingLaws.{Names, gathered-status}

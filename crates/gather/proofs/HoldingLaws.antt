@@ -13,9 +13,9 @@ use Rattle.tree.specs.Context.{left, right, Frame, frame, plug, before, OverAbo
 use Rattle.tree.specs.InnerPass.{fold}
 use Rattle.tree.proofs.TreeLaws.{postfix-length, size-positive}
 use Rattle.gather.specs.Gathering.{Gathered}
-use Rattle.gather.specs.InnerHolding.{merged, status}
-use Rattle.gather.specs.declared.Status.{Status}
-use Rattle.gather.specs.declared.Status.the-variants.{Free, Mixed, All, Held}
+use Rattle.holding.specs.InnerHolding.{merged, status}
+use Rattle.holding.specs.declared.Status.{Status}
+use Rattle.holding.specs.declared.Status.the-variants.{Free, Mixed, All, Held}
 use Rattle.gather.proofs.GatheringLaws.{unmarked, gathered-whole, gathered-left, gathered-right}
 
 -- ---- what a status says

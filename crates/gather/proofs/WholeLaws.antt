@@ -35,12 +35,12 @@ use Rattle.columns.specs.Inner.{Scanned, Room, ColumnsReady, ConstantReady, Rea
 use Rattle.columns.specs.declared.Choice.{Choice}
 use Rattle.columns.specs.declared.Choice.the-variants.{Never, Constant, Columns}
 use Rattle.gather.specs.Gathering.{Gathered}
-use Rattle.gather.specs.InnerHolding.{status}
+use Rattle.holding.specs.InnerHolding.{status}
 use Rattle.gather.specs.Inner.{MarkedParts, Collected, Ordered}
 use Rattle.gather.specs.Answer.{badMark, groupsFault, treeFault, gatherFault, GatheredTo, GathersTree}
 use Rattle.gather.specs.InnerGathered.{treeBy, rearranged, gatheredBy, namedBy, Returned}
-use Rattle.gather.specs.declared.Status.{Status}
-use Rattle.gather.specs.declared.Status.the-variants.{Free, Mixed, All, Held}
+use Rattle.holding.specs.declared.Status.{Status}
+use Rattle.holding.specs.declared.Status.the-variants.{Free, Mixed, All, Held}
 use Rattle.gather.specs.declared.Gathering.{Gathering}
 use Rattle.gather.specs.declared.Gathering.the-variants.{Done, Refused}
 use Rattle.gather.proofs.GatheringLaws.{fillings-cannot}

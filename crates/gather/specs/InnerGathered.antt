@@ -12,11 +12,11 @@ use Rattle.tree.specs.Writing.{over}
 use Rattle.table.specs.InnerTable.{table, rowsOf}
 use Rattle.columns.specs.InnerChoosing.{choice}
 use Rattle.columns.specs.InnerJoining.{treeFor}
-use Rattle.gather.specs.InnerHolding.{status}
+use Rattle.holding.specs.InnerHolding.{status}
 use Rattle.gather.specs.Answer.{gatheringSays, gatherFault}
 use Rattle.gather.specs.declared.Gathering.{Gathering}
-use Rattle.gather.specs.declared.Status.{Status}
-use Rattle.gather.specs.declared.Status.the-variants.{Free, Mixed, All, Held}
+use Rattle.holding.specs.declared.Status.{Status}
+use Rattle.holding.specs.declared.Status.the-variants.{Free, Mixed, All, Held}
 
 -- the tree by the columns of t's table over the groups gs, of which the first m are marked
 abbrev pub treeBy : List ℕ → ℕ → Tree → Option Tree

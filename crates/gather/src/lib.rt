@@ -12,7 +12,6 @@ ghost use Rattle.tree.specs.InnerWriting.{Wrote};
 ghost use Rattle.table.specs.InnerTable.{rowsOf, Listed};
 ghost use Rattle.columns.specs.Inner.{Room, ReadyFor};
 ghost use Rattle.gather.specs.Gathering.{Gathered};
-ghost use Rattle.gather.specs.InnerHolding.{merged, statusOf, status};
 ghost use Rattle.gather.specs.Inner.{Collected, treeList, Ordered};
 ghost use Rattle.gather.specs.Answer.{badMark, gatherFault, GathersTree, Gathers};
 ghost use Rattle.gather.specs.InnerGathered.{treeBy, rearranged, gatheredBy, namedBy, Returns, GathersBy};
@@ -21,6 +20,8 @@ use columns::build_columns;
 use columns::build_constant;
 use columns::choose;
 use forms::power;
+use holding::Status;
+use holding::holding;
 use table::ROWS;
 use tree::MOST_GROUPS;
 
@@ -39,80 +40,6 @@ pub const CANNOT_BE_GATHERED: u16 = 19;
 pub enum Gathering {
     Done { nodes: usize, holder: usize },
     Refused(u16),
-}
-
-// ---- is the tree gathered already
-
-// Of a part of the tree: no leaf is marked; all are, its root at the position; gathered, the holder at the position; none of these.
-pub enum Status {
-    Free,
-    Mixed,
-    All(usize),
-    Held(usize),
-}
-
-// The status of a node at a position, by its operands'.
-fn merge(a: Status, b: Status, at: usize) -> Status
-    ensures { λ r. ⌜ r ≡ merged at a b ⌝ }
-{
-    match a {
-        Status::Mixed => Status::Mixed,
-        Status::Free => match b {
-            Status::Free => Status::Free,
-            Status::Mixed => Status::Mixed,
-            Status::All(k) => Status::Held(k),
-            Status::Held(k) => Status::Held(k),
-        },
-        Status::All(j) => match b {
-            Status::Free => Status::Held(j),
-            Status::Mixed => Status::Mixed,
-            Status::All(_) => Status::All(at),
-            Status::Held(_) => Status::Mixed,
-        },
-        Status::Held(j) => match b {
-            Status::Free => Status::Held(j),
-            Status::Mixed => Status::Mixed,
-            Status::All(_) => Status::Mixed,
-            Status::Held(_) => Status::Mixed,
-        },
-    }
-}
-
-// The status of a leaf at a position.
-fn leaf_status(marks: &[u16], at: usize, x: u16) -> Status
-    ensures { λ r. ⌜ r ≡ statusOf (isIn (now (marks .entry)) x) at ⌝ }
-{
-    if tree::is_in(marks, x) {
-        return Status::All(at);
-    }
-    Status::Free
-}
-
-// The status of the whole tree.
-fn holding(list: &[u16], marks: &[u16]) -> Status
-    requires { ⌜ Listed (now list) ⌝ }
-    ensures { λ r. ⌜ ((t : Tree) → now (list .entry) ≡ postfix t → r ≡ status (isIn (now (marks .entry))) 0 t) ⌝ }
-{
-    let mut stack = [Status::Free; tree::MOST_NODES];
-    let mut top: usize = 0;
-    let mut i = 0;
-    while i < list.len() {
-        let x = list[i];
-        if x < tree::UNION {
-            let value = leaf_status(marks, i, x);
-            stack[top] = value;
-            top += 1;
-            i += 1;
-        } else {
-            let b = stack[top - 1];
-            let a = stack[top - 2];
-            let value = merge(a, b, i);
-            stack[top - 2] = value;
-            top -= 1;
-            i += 1;
-        }
-    }
-    stack[0]
 }
 
 // ---- the groups and the marks

@@ -4,7 +4,7 @@ use mathlib.Core.Logic.{inl, inr}
 use native.Mathlib.Omega.{arith}
 use Rattle.gather.proofs.HoldingLaws.{status-not}
 use Rattle.gather.proofs.GatheredLaws.{returned-as}
-use Rattle.gather.specs.declared.Status.the-variants.{Free, Mixed}
+use Rattle.holding.specs.declared.Status.the-variants.{Free, Mixed}
 use Rattle.gather.proofs.WholeLaws.{faultless, faultless-list, the-same, copied, copied-returned, not-free, not-mixed}
 use borrow.Author.Needs.{needs}
 use Rattle.gather.proofs.gather_tree.Statement.{statement}

@@ -4,12 +4,12 @@ use native.Mathlib.Omega.{arith}
 use lib.ListN.{length, length-set}
 use Rattle.tree.specs.Tree.{Tree, postfix, isIn}
 use Rattle.tree.proofs.PassLaws.{Passing, passing-start}
-use Rattle.gather.specs.InnerHolding.{leafStatus, nodeStatus}
-use Rattle.gather.specs.declared.Status.the-variants.{Free}
+use Rattle.holding.specs.InnerHolding.{leafStatus, nodeStatus}
+use Rattle.holding.specs.declared.Status.the-variants.{Free}
 use Rattle.table.proofs.EntryLaws.{turn-group, turn-operator, turn-two, turn-end}
 use borrow.Author.Needs.{needs}
-use Rattle.gather.proofs.holding.Statement.{statement}
-use Rattle.gather.proofs.holding.Tie as tie
+use Rattle.holding.proofs.holding.Statement.{statement}
+use Rattle.holding.proofs.holding.Tie as tie
 
 abbrev Inv-loop : tie.InvT-loop
 Inv-loop list marks stack₀ top₀ i₀ stack top i = (i ≤ length list) × (top ≤ i) × (length stack ≡ 8191) × ((t : Tree) → list ≡ postfix t → Passing (leafStatus (isIn marks)) nodeStatus Free t i stack top)

@@ -1,6 +1,6 @@
 use borrow.Author.Needs.{needs}
-use Rattle.gather.proofs.merge.Statement.{statement}
-use Rattle.gather.proofs.merge.Tie as tie
+use Rattle.holding.proofs.merge.Statement.{statement}
+use Rattle.holding.proofs.merge.Tie as tie
 
 enum-told : tie.Need-enum-told
 enum-told c = search needs

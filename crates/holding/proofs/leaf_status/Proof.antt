@@ -1,6 +1,6 @@
 use borrow.Author.Needs.{needs}
-use Rattle.gather.proofs.leaf_status.Statement.{statement}
-use Rattle.gather.proofs.leaf_status.Tie as tie
+use Rattle.holding.proofs.leaf_status.Statement.{statement}
+use Rattle.holding.proofs.leaf_status.Tie as tie
 
 is-in-requires : tie.Need-is-in-requires
 is-in-requires c κs = search needs

@@ -1,11 +1,11 @@
--- Whether a tree is gathered already, and its holder's position, by one pass. proofs/HoldingLaws.antt says that this is `Gathered`.
+-- Whether a tree is gathered already, and its holder's position, by one pass. `gather` proofs/HoldingLaws.antt says that this is `Gathered`.
 use mathlib.Core.Bool.{Bool, cond}
 use Prim.Native.Nat.{ℕ}
 use lib.Dec.{T}
 use Rattle.tree.specs.Tree.{Operator, Tree, isGroup}
 use Rattle.tree.specs.InnerPass.{fold}
-use Rattle.gather.specs.declared.Status.{Status}
-use Rattle.gather.specs.declared.Status.the-variants.{Free, Mixed, All, Held}
+use Rattle.holding.specs.declared.Status.{Status}
+use Rattle.holding.specs.declared.Status.the-variants.{Free, Mixed, All, Held}
 
 -- Free: no leaf is marked; All k: all are, and the root is at k; Held k: gathered with the holder at k; Mixed: none of these
 abbrev pub merged : ℕ → Status → Status → Status

@@ -1,0 +1,1 @@
+-- Its laws, what a status says of the tree, stand in `gather`, which has the definition of gathered.
