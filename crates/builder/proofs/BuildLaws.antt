@@ -26,12 +26,12 @@ use Rattle.steps.specs.declared.Holder.the-variants.{Absent, Dropped, Held}
 use Rattle.steps.specs.declared.Use.{Use}
 use Rattle.steps.specs.declared.Use.the-variants.{No, Plain, First, Second}
 use Rattle.steps.specs.declared.Step.{Step}
-use Rattle.builder.specs.InnerBuilding.{join, single, leftTree, rightTree, outer, variableTree, formed, without, build}
+use Rattle.builder.specs.InnerBuilding.{join, single, leftTree, rightTree, outer, variableTree, formed, without, build, Buildable}
 use Rattle.builder.proofs.JoinLaws.{selectsOptional, OverOptional, join-over, single-selects, single-over}
 use Rattle.builder.proofs.FormLaws.{formed-selects}
 use Rattle.builder.proofs.RowLaws.{without-counts, row-around, split-row, half-rows, may-use}
 use Rattle.builder.proofs.TakenLaws.{BelowSays, Taken, step-taken}
-use Rattle.builder.proofs.ReadyLaws.{Buildable, StepBuildable, step-buildable, top-may, in-without, variable-in, group-not-zero}
+use Rattle.builder.proofs.ReadyLaws.{StepBuildable, step-buildable, top-may, in-without, variable-in, group-not-zero}
 
 -- the variables' values where the groups are filled by v: the holder's is what its tree selects
 abbrev pub filled : (ℕ → Bool) → Option Tree → ℕ → Bool

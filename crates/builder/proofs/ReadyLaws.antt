@@ -11,7 +11,7 @@ use lib.Dec.{eqb, ltb}
 use borrow.Author.Tests.{ne-eqb, ltb-true, ltb-false}
 use lib.ListN.{length, getD, take, drop, length-append, drop-of-length-le, List·getD-append, List·getD-eq-default}
 use lib.Seq.{getD-at, take-append-seam, take-append-le, drop-append-le}
-use Rattle.tree.specs.Tree.{Tree, leaf, isGroup, isIn, mostGroups}
+use Rattle.tree.specs.Tree.{Tree, leaf, isGroup, isIn}
 use Rattle.tree.proofs.TreeLaws.{or-cases, is-in-append, in-left, in-right}
 use Rattle.tree.proofs.GroupLaws.{is-in-here, in-later}
 use Rattle.forms.specs.InnerForms.{Table, half, rowAt, lowRow, atPair, splitBy, firstRow, secondRow, firstPart, secondPart, usable}
@@ -28,19 +28,10 @@ use Rattle.steps.specs.declared.Holder.the-variants.{Absent, Dropped, Held}
 use Rattle.steps.specs.declared.Use.{Use}
 use Rattle.steps.specs.declared.Use.the-variants.{No, Plain, First, Second}
 use Rattle.steps.specs.declared.Step.{Step}
-use Rattle.builder.specs.InnerBuilding.{single, variableTree, without, mostBuilt, mostFor, mostFormed, Variables, HolderReady, Ready, HolderTree}
+use Rattle.builder.specs.InnerBuilding.{single, variableTree, without, mostBuilt, mostFor, mostFormed, Variables, HolderReady, Buildable, HolderTree}
 use Rattle.builder.proofs.JoinLaws.{group-holds, single-leaf}
 use Rattle.builder.proofs.RowLaws.{around, without-counts, split-row, half-rows, split-rows, split-same, may-use, usable-by, low-zero}
 use Rattle.builder.proofs.TakenLaws.{first-allowed, some-allowed, BelowSays, Top, Taken, step-taken}
-
--- `Ready` without the limit of eight variables
-pub record Buildable (m : Holder) (t : Table) (gs : List ℕ) : Type 0 where
-  pub rows : length (t .on) ≡ 2 ^ length gs
-  pub same : length (t .off) ≡ length (t .on)
-  pub first : rowAt t 0 .on ≡ false
-  pub consistent : (i : ℕ) → (rowAt t i .on && rowAt t i .off) ≡ false
-  pub variables : Variables m gs
-  pub holder : HolderReady m t
 
 -- the nodes of a variable's tree, with a holder of z nodes
 abbrev pub variableSize : ℕ → ℕ → ℕ
@@ -357,42 +348,3 @@ module _ {m : Holder} {t : Table} {gs : List ℕ} (n : ℕ) (e : length gs ≡ s
 
 pub step-buildable : {m : Holder} {t : Table} {gs : List ℕ} (n i : ℕ) → length gs ≡ suc n → Buildable m t gs → StepBuildable m t gs (stepAt m t n i)
 step-buildable {m} {t} n i e r = taken-ready n e r (stepAt m t n i) (step-taken m t n i (top-may r))
-
--- ---- the same within eight variables
-pub buildable : {m : Holder} {t : Table} {gs : List ℕ} → Ready m t gs → Buildable m t gs
-buildable r = record { rows = r .sized .rows; same = r .sized .same; first = r .first; consistent = r .consistent; variables = r .variables; holder = r .holder }
-
-pub ready : {m : Holder} {t : Table} {gs : List ℕ} → length gs ≤ mostGroups → Buildable m t gs → Ready m t gs
-ready h b = record {
-  sized = record { rows = b .rows; same = b .same; most = h };
-  first = b .first;
-  consistent = b .consistent;
-  variables = b .variables;
-  holder = b .holder;
-}
-
-pub record StepReady (m : Holder) (t : Table) (gs : List ℕ) (s : Step) : Type 0 where
-  pub below : s .variable < length gs
-  pub may : usable (s .form) t (2 ^ s .variable) ≡ true
-  pub variable : (getD gs (s .variable) 0 ≡ 0) ⊎ (isGroup (getD gs (s .variable) 0) ≡ true)
-  pub tree : (h : Option Tree) → HolderTree m h → (x : Tree) × (variableTree h (getD gs (s .variable) 0) ≡ some x)
-  pub holders : (h : Option Tree) → HolderTree m h → HolderTree (firstHolder (s .plan)) h × HolderTree (secondHolder (s .plan)) h
-  pub first : Ready (firstHolder (s .plan)) (firstPart (s .form) t (2 ^ s .variable)) (without (s .variable) gs)
-  pub second : Ready (secondHolder (s .plan)) (secondPart (s .form) t (2 ^ s .variable)) (without (s .variable) gs)
-  pub room : (n z : ℕ) → length gs ≡ suc n
-      → mostFormed (s .form) (variableSize z (getD gs (s .variable) 0)) (mostFor (firstHolder (s .plan)) n z) (mostFor (secondHolder (s .plan)) n z) ≤ mostFor m (suc n) z
-
-pub step-ready : {m : Holder} {t : Table} {gs : List ℕ} (n i : ℕ) → length gs ≡ suc n → Ready m t gs → StepReady m t gs (stepAt m t n i)
-step-ready {m} {t} {gs} n i e r =
-    let S = step-buildable n i e (buildable r) in
-    let l : length (without (stepAt m t n i .variable) gs) ≤ mostGroups = omega (arith, without-counts gs (stepAt m t n i .variable) (S .below) n e, r .sized .most) in
-    record {
-      below = S .below;
-      may = S .may;
-      variable = S .variable;
-      tree = S .tree;
-      holders = S .holders;
-      first = ready l (S .first);
-      second = ready l (S .second);
-      room = S .room;
-    }

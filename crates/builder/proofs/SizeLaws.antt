@@ -15,8 +15,8 @@ use Rattle.forms.specs.declared.Form.the-variants.{Drop, Less, Plus, ReducedPlu
 use Rattle.steps.specs.InnerSteps.{firstHolder, secondHolder, stepAt}
 use Rattle.steps.specs.declared.Holder.{Holder}
 use Rattle.steps.specs.declared.Step.{Step}
-use Rattle.builder.specs.InnerBuilding.{sizeOptional, join, leafOf, single, formed, variableTree, without, build, mostFor, mostFormed, Ready, HolderTree}
-use Rattle.builder.proofs.ReadyLaws.{variableSize, step-ready}
+use Rattle.builder.specs.InnerBuilding.{sizeOptional, join, leafOf, single, formed, variableTree, without, build, mostFor, mostFormed, Buildable, HolderTree}
+use Rattle.builder.proofs.ReadyLaws.{variableSize, step-buildable}
 use Rattle.builder.proofs.WritingLaws.{union-none, without-length}
 
 pub join-size : (o : Operator) (a b : Option Tree) → sizeOptional (join o a b) ≤ sizeOptional a + sizeOptional b + 1
@@ -74,13 +74,13 @@ firstBuilt choice n s t gs h = build choice n (firstHolder (s .plan)) (firstPart
 abbrev pub secondBuilt : (Holder → Table → ℕ → ℕ) → ℕ → Step → Table → List ℕ → Option Tree → Option Tree
 secondBuilt choice n s t gs h = build choice n (secondHolder (s .plan)) (secondPart (s .form) t (2 ^ s .variable)) (without (s .variable) gs) h
 
-pub build-size : (choice : Holder → Table → ℕ → ℕ) (k : ℕ) {m : Holder} {t : Table} {gs : List ℕ} (h : Option Tree) → Ready m t gs → length gs ≡ k → HolderTree m h
+pub build-size : (choice : Holder → Table → ℕ → ℕ) (k : ℕ) {m : Holder} {t : Table} {gs : List ℕ} (h : Option Tree) → Buildable m t gs → length gs ≡ k → HolderTree m h
     → sizeOptional (build choice k m t gs h) ≤ mostFor m k (sizeOptional h)
 unfolding build
 build-size choice zero h r e q = omega arith
 build-size choice (suc n) {m} {t} {gs} h r e q =
     let s = stepAt m t n (choice m t n) in
-    let R = step-ready n (choice m t n) e r in
+    let R = step-buildable n (choice m t n) e r in
     let x = getD gs (s .variable) 0 in
     let l : length (without (s .variable) gs) ≡ n = omega (arith, without-length gs (s .variable) (R .below)) in
     let H = R .holders h q in

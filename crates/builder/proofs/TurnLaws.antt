@@ -8,7 +8,7 @@ use native.Mathlib.Nat.{le-refl, two-pow-succ}
 use native.Mathlib.Omega.{arith}
 use lib.Dec.{eqb}
 use lib.ListN.{length, getD, take, length-take}
-use Rattle.tree.specs.Tree.{Tree, postfix, sign}
+use Rattle.tree.specs.Tree.{Tree, postfix, sign, mostGroups}
 use Rattle.tree.specs.InnerWriting.{Wrote}
 use Rattle.tree.proofs.WritingLaws.{wrote-nothing, wrote-as}
 use Rattle.forms.specs.InnerForms.{Table, tableOf, half, firstPart, secondPart, Holds, Parted}
@@ -20,16 +20,16 @@ use Rattle.steps.specs.declared.Step.{Step}
 use Rattle.builder.specs.InnerBuilding.{postfixOptional, sizeOptional, outer, formed, variableTree, without, build, mostFor, mostFormed, between, variableList, leftWritten, endsThere, beforeWritten, afterWritten, Ready, stepOf, Turned, HolderTree, Holding, Built}
 use Rattle.builder.specs.declared.Turn.{Turn}
 use Rattle.builder.proofs.WritingLaws.{optional-length, variable-list, has-right, form-ends, form-wrote, without-length, left-room, whole-room}
-use Rattle.builder.proofs.ReadyLaws.{variableSize, StepReady, step-ready}
+use Rattle.builder.proofs.ReadyLaws.{variableSize, StepBuildable, step-buildable}
 use Rattle.builder.proofs.SizeLaws.{most-grows, firstBuilt, secondBuilt, build-size}
 
 -- ---- the step
 module _ {m : Holder} {t : Table} {gs : List ℕ} {n : ℕ} (e : length gs ≡ suc n) (ready : Ready m t gs) where
   pub turn-sized : Sized (t .on) (t .off) (suc n)
-  turn-sized = rw (sym e) (ready .sized)
+  turn-sized = record { rows = ready .table .rows ∙ ap (λ (k : ℕ). 2 ^ k) e; same = ready .table .same; most = omega (arith, ready .few) }
 
-  turn-step : StepReady m t gs (stepOf m t n)
-  turn-step = step-ready n (choose m t n) e ready
+  turn-step : StepBuildable m t gs (stepOf m t n)
+  turn-step = step-buildable n (choose m t n) e (ready .table)
 
   pub turn-below : {s : Step} → s ≡ stepOf m t n → s .variable < length gs
   turn-below q = rw q (turn-step .below)
@@ -67,8 +67,8 @@ given : {m : Holder} {t : Table} {gs : List ℕ} {n count : ℕ} {mc : Holder} {
     → mc ≡ m → Holds rows count t → take n rest ≡ gs → Given m t gs n count mc rows rest
 given {m} {t} {gs} {n} {count} {mc} {rows} {rest} r e c h w g =
     let k : 2 ^ length gs ≡ 2 ^ n = ap (λ (i : ℕ). 2 ^ i) e in
-    let a : length (take count (rows .on)) ≡ count = omega (arith, ap length (w .on), r .sized .rows) in
-    let b : length (take count (rows .off)) ≡ count = omega (arith, ap length (w .off), r .sized .rows, r .sized .same) in
+    let a : length (take count (rows .on)) ≡ count = omega (arith, ap length (w .on), r .table .rows) in
+    let b : length (take count (rows .off)) ≡ count = omega (arith, ap length (w .off), r .table .rows, r .table .same) in
     let d : length (take n rest) ≡ n = ap length g ∙ e in
     record {
       ons = sym a;
@@ -109,7 +109,7 @@ module _ {m : Holder} {t : Table} {gs : List ℕ} {n count : ℕ} {mc : Holder} 
         record {
           nodes = length (postfixOptional (build choose n m t gs h));
           ends = u .ends;
-          small = rw z (omega (arith, optional-length (build choose n m t gs h), build-size choose n h (g .ready) l k));
+          small = rw z (omega (arith, optional-length (build choose n m t gs h), build-size choose n h (g .ready .table) l k));
           same = u .same;
         }
 
@@ -137,7 +137,7 @@ abbrev pub listX : List ℕ → Turn → List ℕ
 listX hs r = variableList hs (r .x)
 
 module _ {d : ℕ} {m : Holder} {t : Table} {gs hs out : List ℕ} {at n : ℕ} {r : Turn} (b : Begun d m t gs hs out at n r) where
-  s : StepReady m t gs (stepOf m t n)
+  s : StepBuildable m t gs (stepOf m t n)
   s = turn-step (b .count) (b .ready)
 
   rows : half t ≡ 2 ^ n
@@ -146,13 +146,16 @@ module _ {d : ℕ} {m : Holder} {t : Table} {gs hs out : List ℕ} {at n : ℕ} 
   others : length (without (stepOf m t n .variable) gs) ≡ n
   others = omega (arith, without-length gs (stepOf m t n .variable) (s .below), b .count)
 
+  few : length (without (stepOf m t n .variable) gs) ≤ mostGroups
+  few = omega (arith, others, b .count, b .ready .few)
+
   pub given-a : Given (firstHolder (stepOf m t n .plan)) (firstPart (stepOf m t n .form) t (2 ^ stepOf m t n .variable)) (without (stepOf m t n .variable) gs) n (half t)
       (r .ma) (r .a) (r .rest)
-  given-a = given (s .first) others rows (b .turned .ma) (b .turned .a) (b .turned .rest)
+  given-a = given (record { few = few; table = s .first }) others rows (b .turned .ma) (b .turned .a) (b .turned .rest)
 
   pub given-b : Given (secondHolder (stepOf m t n .plan)) (secondPart (stepOf m t n .form) t (2 ^ stepOf m t n .variable)) (without (stepOf m t n .variable) gs) n (half t)
       (r .mb) (r .b) (r .rest)
-  given-b = given (s .second) others rows (b .turned .mb) (b .turned .b) (b .turned .rest)
+  given-b = given (record { few = few; table = s .second }) others rows (b .turned .mb) (b .turned .b) (b .turned .rest)
 
   -- the trees of a and b, where h is the holder's
   abbrev treeA : Option Tree → Option Tree

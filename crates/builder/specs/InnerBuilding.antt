@@ -4,16 +4,16 @@ use mathlib.Core.Path.{_≡_}
 use mathlib.Core.Bool.{Bool, true, false, cond, _&&_, _||_}
 use mathlib.Core.List.{List, [], _∷_, _++_}
 use mathlib.Core.Option.{Option, some, none}
-use Prim.Native.Nat.{ℕ, zero, suc, _+_, _-_, _*_, _^_}
+use Prim.Native.Nat.{ℕ, zero, suc, _+_, _-_, _*_, _^_, _≤_}
 use lib.Dec.{eqb}
 use lib.ListN.{length, getD, take, drop}
-use Rattle.tree.specs.Tree.{Operator, union, difference, sign, Tree, leaf, node, isGroup, postfix, size, isIn}
+use Rattle.tree.specs.Tree.{Operator, union, difference, sign, Tree, leaf, node, isGroup, postfix, size, isIn, mostGroups}
 use Rattle.tree.specs.Pass.{Entry, group, operator, neither, entryOf}
 use Rattle.tree.specs.InnerWriting.{Wrote}
 use Rattle.forms.specs.InnerForms.{Table, tableOf, half, rowAt, firstPart, secondPart, usable, Holds}
 use Rattle.forms.specs.declared.Form.{Form}
 use Rattle.forms.specs.declared.Form.the-variants.{Drop, Less, Plus, ReducedPlus, JoinedLess, LessOutside, ReducedUnion, JoinedDifference}
-use Rattle.steps.specs.InnerSteps.{canHold, firstHolder, secondHolder, stepAt, choose, Sized}
+use Rattle.steps.specs.InnerSteps.{canHold, firstHolder, secondHolder, stepAt, choose}
 use Rattle.steps.specs.declared.Holder.{Holder}
 use Rattle.steps.specs.declared.Holder.the-variants.{Absent, Dropped, Held}
 use Rattle.steps.specs.declared.Step.{Step}
@@ -186,13 +186,19 @@ HolderReady Absent t = Unit {0}
 HolderReady Dropped t = usable Drop t (half t) ≡ true
 HolderReady Held t = canHold t ≡ true
 
--- a table over these variables that a tree is built for; no tree selects anything at row 0
-pub record Ready (m : Holder) (t : Table) (gs : List ℕ) : Type 0 where
-  pub sized : Sized (t .on) (t .off) (length gs)
+-- a table over these variables that a tree can be built for; no tree selects anything at row 0
+pub record Buildable (m : Holder) (t : Table) (gs : List ℕ) : Type 0 where
+  pub rows : length (t .on) ≡ 2 ^ length gs
+  pub same : length (t .off) ≡ length (t .on)
   pub first : rowAt t 0 .on ≡ false
   pub consistent : (i : ℕ) → (rowAt t i .on && rowAt t i .off) ≡ false
   pub variables : Variables m gs
   pub holder : HolderReady m t
+
+-- .. of at most as many variables as the code has room for
+pub record Ready (m : Holder) (t : Table) (gs : List ℕ) : Type 0 where
+  pub few : length gs ≤ mostGroups
+  pub table : Buildable m t gs
 
 -- the step that is taken at a table over n variables and one more
 abbrev pub stepOf : Holder → Table → ℕ → Step

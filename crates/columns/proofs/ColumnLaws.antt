@@ -174,7 +174,7 @@ module _ (T : ℕ → Bool) {ms us : List ℕ} {w columns room : ℕ} (s : Room 
     first-wrote = rw (first-table T s h) at (f .wrote none refl tt)
 
     pub first-room : a + 4 ≤ room
-    first-room = omega (arith, first-wrote .ends, optional-length A, build-size choose (length us) none (q .table) refl tt, s .space)
+    first-room = omega (arith, first-wrote .ends, optional-length A, build-size choose (length us) none (q .table .table) refl tt, s .space)
 
     pub constant-wrote : {o₂ o₃ : List ℕ} {b e : ℕ} → Wrote o₁ a o₂ b (getD ms 0 0 ∷ getD ms 0 0 ∷ sign difference ∷ [])
         → Wrote o₂ b o₃ e (between 0 a b (sign union)) → Wrote out 0 o₃ e (postfixOptional (constantTree T ms us))
@@ -193,13 +193,13 @@ module _ (T : ℕ → Bool) {ms us : List ℕ} {w columns room p start : ℕ} (s
   column-inside = omega (arith, q .inside, ap₂ _*_ (s .width) (s .count), s .width, s .most)
 
   pub marks-small : mostBuilt (length ms) ≤ 1275
-  marks-small = most-small (length ms) (q .column .sized .most)
+  marks-small = most-small (length ms) (q .column .few)
 
   one-more : length (us ++ (0 ∷ [])) ≡ suc (length us)
   one-more = omega (arith, after-length us refl)
 
   pub others-few : length us + 1 ≤ mostGroups
-  others-few = omega (arith, q .table .sized .most, one-more)
+  others-few = omega (arith, q .table .few, one-more)
 
   pub columns-few : 2 * columns ≤ rowCount
   columns-few = let l : suc (length us) ≤ mostGroups = omega (arith, others-few) in omega (arith, double s, pow-mono {j = mostGroups} l)
@@ -220,7 +220,7 @@ module _ (T : ℕ → Bool) {ms us : List ℕ} {w columns room p start : ℕ} (s
 
       holder-most : n ≤ mostBuilt (length ms)
       unfolding holderTree
-      holder-most = omega (arith, holder-wrote .ends, optional-length H, build-size choose (length ms) none (q .column) refl tt)
+      holder-most = omega (arith, holder-wrote .ends, optional-length H, build-size choose (length ms) none (q .column .table) refl tt)
 
       pub holder-inside : n ≤ length hs
       holder-inside = omega (arith, holder-most, marks-small, holder-wrote .same)

@@ -18,10 +18,10 @@ use Rattle.table.specs.InnerTable.{filling}
 use Rattle.table.proofs.TableLaws.{rowOf, Tabled, row-below, row-append, row-agree, row-filling, selects-row, value-zero}
 use Rattle.forms.proofs.SearchLaws.{Fails, first-fails}
 use Rattle.steps.specs.InnerSteps.{choose, canHold}
-use Rattle.builder.specs.InnerBuilding.{join, single, variableTree, build}
+use Rattle.builder.specs.InnerBuilding.{join, single, variableTree, build, Buildable}
 use Rattle.builder.proofs.JoinLaws.{selectsOptional, OverOptional, join-selects, join-over, single-leaf, single-over, group-holds}
 use Rattle.forms.proofs.TestLaws.{beq-true}
-use Rattle.builder.proofs.ReadyLaws.{Buildable, variable-in}
+use Rattle.builder.proofs.ReadyLaws.{variable-in}
 use Rattle.builder.proofs.BuildLaws.{group-over, build-over, build-some}
 use Rattle.columns.proofs.ColumnLaws.{row-column}
 use Rattle.columns.specs.InnerJoining.{differs, columnTable, heldTable, firstRows, holderTree, columnsTree, constantTree, treeFor}

@@ -20,12 +20,12 @@ use Rattle.steps.specs.declared.Holder.the-variants.{Absent, Dropped, Held}
 use Rattle.steps.specs.declared.Use.{Use}
 use Rattle.steps.specs.declared.Use.the-variants.{No, Plain, First, Second}
 use Rattle.steps.specs.declared.Step.{Step}
-use Rattle.builder.specs.InnerBuilding.{join, leftTree, rightTree, outer, formed, variableTree, without, build}
+use Rattle.builder.specs.InnerBuilding.{join, leftTree, rightTree, outer, formed, variableTree, without, build, Buildable}
 use Rattle.forms.proofs.TestLaws.{both}
 use Rattle.builder.proofs.JoinLaws.{OverOptional, join-over}
 use Rattle.builder.proofs.RowLaws.{half-rows, without-counts, usable-by}
 use Rattle.builder.proofs.TakenLaws.{BelowSays, Taken, step-taken}
-use Rattle.builder.proofs.ReadyLaws.{Buildable, StepBuildable, step-buildable, top-may, in-without, variable-in, group-tree, without-last, without-below}
+use Rattle.builder.proofs.ReadyLaws.{StepBuildable, step-buildable, top-may, in-without, variable-in, group-tree, without-last, without-below}
 use Rattle.builder.proofs.BuildLaws.{left-over, right-over, group-over, build-over, build-some, build-dropped, dropped-part}
 use Rattle.gather.specs.Gathering.{Gathered}
 use Rattle.gather.proofs.GatheringLaws.{unmarked, gathered-left, gathered-right}

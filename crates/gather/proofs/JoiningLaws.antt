@@ -19,12 +19,12 @@ use Rattle.forms.specs.declared.Form.the-variants.{Less, Plus, LessOutside}
 use Rattle.steps.specs.InnerSteps.{formCount, formOf, keepsHolder, firstTop, canHold}
 use Rattle.steps.specs.declared.Holder.{Holder}
 use Rattle.steps.specs.declared.Holder.the-variants.{Absent, Held}
-use Rattle.builder.specs.InnerBuilding.{build}
+use Rattle.builder.specs.InnerBuilding.{build, Buildable}
 use Rattle.builder.proofs.JoinLaws.{selectsOptional}
 use Rattle.forms.proofs.FormLaws.{fits}
 use Rattle.builder.proofs.RowLaws.{split-row, half-rows, split-rows, usable-by, some-on}
 use Rattle.builder.proofs.TakenLaws.{some-allowed}
-use Rattle.builder.proofs.ReadyLaws.{Buildable, group-not-zero}
+use Rattle.builder.proofs.ReadyLaws.{group-not-zero}
 use Rattle.builder.proofs.BuildLaws.{filled, build-agrees}
 use Rattle.columns.specs.InnerJoining.{exactTable, heldRow, heldTable}
 

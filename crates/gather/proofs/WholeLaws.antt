@@ -26,8 +26,8 @@ use Rattle.table.proofs.TableLaws.{Tabled, table-at, rows-most}
 use Rattle.tree.specs.Pass.{entryOf}
 use Rattle.steps.specs.InnerSteps.{choose}
 use Rattle.steps.specs.declared.Holder.the-variants.{Absent}
-use Rattle.builder.specs.InnerBuilding.{postfixOptional, sizeOptional, join, single, build, mostBuilt}
-use Rattle.builder.proofs.ReadyLaws.{Buildable, ready, less-one}
+use Rattle.builder.specs.InnerBuilding.{postfixOptional, sizeOptional, join, single, build, mostBuilt, Buildable}
+use Rattle.builder.proofs.ReadyLaws.{less-one}
 use Rattle.builder.proofs.SizeLaws.{join-size, leaf-size, build-size}
 use Rattle.columns.specs.InnerJoining.{firstRows, columnTable, holderTree, columnsTree, constantTree, treeFor}
 use Rattle.columns.specs.InnerChoosing.{choice}
@@ -137,13 +137,13 @@ module _ {list gs : List ℕ} {m : ℕ} (o : Ordered list gs m) where
       columns-ready p start T = record {
         row = T .row;
         inside = T .inside;
-        column = ready few-marks (T .column);
-        table = ready (omega (arith, length-append (drop m gs) (0 ∷ []), few-others)) (T .held);
+        column = record { few = few-marks; table = T .column };
+        table = record { few = omega (arith, length-append (drop m gs) (0 ∷ []), few-others); table = T .held };
         holder = T .holder;
       }
 
       constant-ready : Buildable Absent (firstRows (rowsOf rows) (take m gs) (drop m gs)) (drop m gs) → ConstantReady (rowsOf rows) (take m gs) (drop m gs)
-      constant-ready b = record { mark-groups = o .parts .mark-groups; table = ready (omega (arith, few-others)) b }
+      constant-ready b = record { mark-groups = o .parts .mark-groups; table = record { few = omega (arith, few-others); table = b } }
 
       pub ready-for : ReadyFor (rowsOf rows) (take m gs) (drop m gs) c
       ready-for = go c judgement
@@ -162,7 +162,7 @@ module _ {list gs : List ℕ} {m : ℕ} (o : Ordered list gs m) where
       tree-small Never r = omega arith
       tree-small Constant r =
           let x = single (getD (take m gs) 0 0) in
-          let a = build-size choose (length (drop m gs)) none (r .table) refl tt in
+          let a = build-size choose (length (drop m gs)) none (r .table .table) refl tt in
           omega (
             arith,
             join-size union (build choose (length (drop m gs)) Absent (firstRows (rowsOf rows) (take m gs) (drop m gs)) (drop m gs) none) (join difference x x),
@@ -173,8 +173,8 @@ module _ {list gs : List ℕ} {m : ℕ} (o : Ordered list gs m) where
           )
       tree-small (Columns low high start) r =
           let h = build choose (length (take m gs)) Absent (columnTable (rowsOf rows) (take m gs) (drop m gs) start) (take m gs) none in
-          let a = build-size choose (length (take m gs)) none (r .column) refl tt in
-          let b = build-size choose (suc (length (drop m gs))) h (r .table) (omega (arith, length-append (drop m gs) (0 ∷ []))) (r .holder) in
+          let a = build-size choose (length (take m gs)) none (r .column .table) refl tt in
+          let b = build-size choose (suc (length (drop m gs))) h (r .table .table) (omega (arith, length-append (drop m gs) (0 ∷ []))) (r .holder) in
           omega (arith, a, b, less-one (length (drop m gs)), sizes .0)
 
       -- the tree is the one named

@@ -10,7 +10,7 @@ step-of-requires : tie.Need-step-of-requires
 step-of-requires c κs = turn-sized (c .before .before .before .pre .1) (c .before .before .before .pre .0)
 
 power-requires : tie.Need-power-requires
-power-requires c κs = let pre = c .before .before .before .before .pre in let h = turn-below (pre .1) (pre .0) (c .step-of .ensures) in omega (arith, pre .0 .sized .most)
+power-requires c κs = let pre = c .before .before .before .before .pre in let h = turn-below (pre .1) (pre .0) (c .step-of .ensures) in omega (arith, pre .0 .few)
 
 split-requires : tie.Need-split-requires
 split-requires c κs =
@@ -19,13 +19,13 @@ split-requires c κs =
     rw (c .power .ensures) (splits (turn-sized (pre .1) (pre .0)) _ h)
 
 mul-t14 : tie.Need-mul-t14
-mul-t14 c = let pre = c .before .before .before .before .before .before .before .before .pre in let h = turn-below (pre .1) (pre .0) (c .before .before .before .before .step-of .ensures) in omega (arith, pre .0 .sized .most)
+mul-t14 c = let pre = c .before .before .before .before .before .before .before .before .pre in let h = turn-below (pre .1) (pre .0) (c .before .before .before .before .step-of .ensures) in omega (arith, pre .0 .few)
 
 shared-slice-read-t16 : tie.Need-shared-slice-read-t16
 shared-slice-read-t16 c = let pre = c .before .before .before .before .before .before .before .before .before .pre in turn-below (pre .1) (pre .0) (c .before .before .before .before .before .step-of .ensures)
 
 without-requires : tie.Need-without-requires
-without-requires c κs = let pre = c .before .before .before .before .before .before .before .before .before .pre in (turn-below (pre .1) (pre .0) (c .before .before .before .before .before .step-of .ensures), pre .0 .sized .most)
+without-requires c κs = let pre = c .before .before .before .before .before .before .before .before .before .pre in (turn-below (pre .1) (pre .0) (c .before .before .before .before .before .step-of .ensures), pre .0 .few)
 
 first-holder-requires : tie.Need-first-holder-requires
 first-holder-requires c κs = search needs

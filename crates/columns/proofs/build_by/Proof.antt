@@ -8,10 +8,10 @@ use Rattle.columns.proofs.build_by.Tie as tie
 
 -- the arrays are as long as the table in them
 on-length : (c : tie.Start) → (let a = c .args in a .count ≡ length (take (a .count) (a .rows .on)))
-on-length c = c .pre .0 ∙ sym (c .pre .1 .0 .sized .rows)
+on-length c = c .pre .0 ∙ sym (c .pre .1 .0 .table .rows)
 
 off-length : (c : tie.Start) → (let a = c .args in a .count ≡ length (take (a .count) (a .rows .off)))
-off-length c = on-length c ∙ sym (c .pre .1 .0 .sized .same)
+off-length c = on-length c ∙ sym (c .pre .1 .0 .table .same)
 
 array-share-prefix-on : tie.Need-array-share-prefix-on
 array-share-prefix-on c = longer _ _ (on-length (c .before .before .before .before .before))
