@@ -1,4 +1,4 @@
--- A built tree agrees with its table, whichever steps are chosen; it is over the variables' groups; and a row that is 1 needs a tree.
+-- A built tree agrees with its table, whichever splits are chosen; it is over the variables' groups; and a row that is 1 needs a tree.
 use mathlib.Core.Path.{_≡_, refl, sym, ap, ap₂, subst, _∙_}
 use mathlib.Core.Bool.{Bool, true, false, not, cond, _&&_, _||_, false≢true}
 use mathlib.Core.Logic.{_⊎_, inl, inr}
@@ -20,18 +20,18 @@ use Rattle.forms.specs.declared.Form.the-variants.{Drop, Less, Plus, ReducedPlu
 use Rattle.forms.proofs.SearchLaws.{some-fails}
 use Rattle.forms.proofs.TestLaws.{both}
 use Rattle.forms.proofs.FormLaws.{fits, formValue, forms-law}
-use Rattle.steps.specs.InnerSteps.{isDrop, firstHolder, secondHolder, stepAt}
-use Rattle.steps.specs.declared.Holder.{Holder}
-use Rattle.steps.specs.declared.Holder.the-variants.{Absent, Dropped, Held}
-use Rattle.steps.specs.declared.Use.{Use}
-use Rattle.steps.specs.declared.Use.the-variants.{No, Plain, First, Second}
-use Rattle.steps.specs.declared.Step.{Step}
+use Rattle.splits.specs.InnerSplits.{isDrop, firstHolder, secondHolder, splitTaken}
+use Rattle.splits.specs.declared.Holder.{Holder}
+use Rattle.splits.specs.declared.Holder.the-variants.{Absent, Dropped, Held}
+use Rattle.splits.specs.declared.Use.{Use}
+use Rattle.splits.specs.declared.Use.the-variants.{No, Plain, First, Second}
+use Rattle.splits.specs.declared.Split.{Split}
 use Rattle.builder.specs.InnerBuilding.{join, single, leftTree, rightTree, outer, variableTree, formed, without, build, Buildable}
 use Rattle.builder.proofs.JoinLaws.{selectsOptional, OverOptional, join-over, single-selects, single-over}
 use Rattle.builder.proofs.FormLaws.{formed-selects}
 use Rattle.builder.proofs.RowLaws.{without-counts, row-around, split-row, half-rows, may-use}
-use Rattle.builder.proofs.TakenLaws.{BelowSays, Taken, step-taken}
-use Rattle.builder.proofs.ReadyLaws.{StepBuildable, step-buildable, top-may, in-without, variable-in, group-not-zero}
+use Rattle.builder.proofs.TakenLaws.{BelowSays, Taken, is-taken}
+use Rattle.builder.proofs.ReadyLaws.{SplitBuildable, split-buildable, top-may, in-without, variable-in, group-not-zero}
 
 -- the variables' values where the groups are filled by v: the holder's is what its tree selects
 abbrev pub filled : (ℕ → Bool) → Option Tree → ℕ → Bool
@@ -48,12 +48,12 @@ module _ (v : ℕ → Bool) (h : Option Tree) where
       ap (λ (b : Bool). selectsOptional v (cond b h (single x))) (group-not-zero x g) ∙ single-selects v x g ∙ sym (ap (λ (b : Bool). cond b (selectsOptional v h) (v x)) (group-not-zero x g))
 
   -- row R of a part, and the row of the table with the variable's bit
-  agree-step : {m : Holder} {t : Table} {gs : List ℕ} (n : ℕ) → length gs ≡ suc n → Buildable m t gs → (s : Step) → StepBuildable m t gs s → (a b : Option Tree)
+  agree-split : {m : Holder} {t : Table} {gs : List ℕ} (n : ℕ) → length gs ≡ suc n → Buildable m t gs → (s : Split) → SplitBuildable m t gs s → (a b : Option Tree)
       → fits (rowAt (firstPart (s .form) t (2 ^ s .variable)) (rowOf (filled v h) (without (s .variable) gs))) (selectsOptional v a) ≡ true
       → fits (rowAt (secondPart (s .form) t (2 ^ s .variable)) (rowOf (filled v h) (without (s .variable) gs))) (selectsOptional v b) ≡ true
       → fits (rowAt t (rowOf (filled v h) gs)) (selectsOptional v (formed (s .form) (variableTree h (getD gs (s .variable) 0)) a b)) ≡ true
   unfolding firstPart secondPart
-  agree-step {m} {t} {gs} n e r s S a b p q =
+  agree-split {m} {t} {gs} n e r s S a b p q =
       let R = rowOf (filled v h) (without (s .variable) gs) in
       let inside : R < half t = omega (arith, half-rows (t .on) n (r .rows ∙ ap (λ (k : ℕ). 2 ^ k) e), row-below (filled v h) (without (s .variable) gs), ap (λ (k : ℕ). 2 ^ k) (without-counts gs (s .variable) (S .below) n e)) in
       let l = rowAt t (lowRow (2 ^ s .variable) R) in
@@ -82,10 +82,10 @@ module _ (v : ℕ → Bool) (h : Option Tree) where
   unfolding build
   build-agrees choice zero {m} {t} {gs} e r = no-variable t gs e (r .first)
   build-agrees choice (suc n) {m} {t} {gs} e r =
-      let s = stepAt m t n (choice m t n) in
-      let S = step-buildable n (choice m t n) e r in
+      let s = splitTaken m t n (choice m t n) in
+      let S = split-buildable n (choice m t n) e r in
       let l = without-counts gs (s .variable) (S .below) n e in
-      agree-step n e r s S _ _ (build-agrees choice n l (S .first)) (build-agrees choice n l (S .second))
+      agree-split n e r s S _ _ (build-agrees choice n l (S .first)) (build-agrees choice n l (S .second))
 
 -- ---- over which groups
 module _ (m : ℕ → Bool) (x a b : Option Tree) (q : OverOptional m x) (p : OverOptional m a) (r : OverOptional m b) where
@@ -121,8 +121,8 @@ pub build-over : (p : ℕ → Bool) (h : Option Tree) (choice : Holder → Table
 unfolding build
 build-over p h choice zero e r own = tt
 build-over p h choice (suc n) {m} {t} {gs} e r own =
-    let s = stepAt m t n (choice m t n) in
-    let S = step-buildable n (choice m t n) e r in
+    let s = splitTaken m t n (choice m t n) in
+    let S = split-buildable n (choice m t n) e r in
     let l = without-counts gs (s .variable) (S .below) n e in
     let rest : (g : ℕ) → isIn (without (s .variable) gs) g ≡ true → OverOptional p (variableTree h g) = λ g q. own g (in-without gs (s .variable) (S .below) g q) in
     formed-over p (variableTree h (getD gs (s .variable) 0)) _ _ (own (getD gs (s .variable) 0) (variable-in gs (s .variable) (S .below)))
@@ -169,22 +169,22 @@ never-below form t step Plain n b = not-absent (b .0)
 never-below form t step First n b = not-held (b .0)
 never-below form t step Second n b = not-held (b .0)
 
-dropped-step : (t : Table) (n : ℕ) (s : Step) → Taken Dropped t n s → s ≡ record { form = Drop; variable = n; plan = Plain }
-dropped-step t n s (inl T) =
+dropped-split : (t : Table) (n : ℕ) (s : Split) → Taken Dropped t n s → s ≡ record { form = Drop; variable = n; plan = Plain }
+dropped-split t n s (inl T) =
     ap (λ (f : Form). record { form = f; variable = s .variable; plan = s .plan }) (drop-form (s .form) (both (usable (s .form) t (half t)) (isDrop (s .form)) (T .may) .1))
     ∙ ap₂ (λ (v : ℕ) (u : Use). record { form = Drop; variable = v; plan = u }) (T .at) (T .plain)
-dropped-step t n s (inr B) = absurd (never-below (s .form) t (2 ^ s .variable) (s .plan) (B .some) (B .says))
+dropped-split t n s (inr B) = absurd (never-below (s .form) t (2 ^ s .variable) (s .plan) (B .some) (B .says))
 
 pub build-dropped : (h : Option Tree) (choice : Holder → Table → ℕ → ℕ) (n : ℕ) {t : Table} {gs : List ℕ} → Buildable Dropped t gs
     → build choice (suc n) Dropped t gs h ≡ join union (build choice n Absent (firstPart Drop t (2 ^ n)) (without n gs) h) none
 unfolding build
 build-dropped h choice n {t} {gs} r =
-    ap (λ (s : Step). formed (s .form) (variableTree h (getD gs (s .variable) 0))
+    ap (λ (s : Split). formed (s .form) (variableTree h (getD gs (s .variable) 0))
     (build choice n (firstHolder (s .plan)) (firstPart (s .form) t (2 ^ s .variable)) (without (s .variable) gs) h)
     (build choice n (secondHolder (s .plan)) (secondPart (s .form) t (2 ^ s .variable)) (without (s .variable) gs) h))
-    (dropped-step t n (stepAt Dropped t n (choice Dropped t n)) (step-taken Dropped t n (choice Dropped t n) (top-may r)))
+    (dropped-split t n (splitTaken Dropped t n (choice Dropped t n)) (is-taken Dropped t n (choice Dropped t n) (top-may r)))
 
 pub dropped-part : (n : ℕ) {t : Table} {gs : List ℕ} → length gs ≡ suc n → Buildable Dropped t gs → Buildable Absent (firstPart Drop t (2 ^ n)) (without n gs)
 dropped-part n {t} {gs} e r =
-    subst (λ (s : Step). Buildable (firstHolder (s .plan)) (firstPart (s .form) t (2 ^ s .variable)) (without (s .variable) gs))
-    (dropped-step t n (stepAt Dropped t n 0) (step-taken Dropped t n 0 (top-may r))) (step-buildable n 0 e r .first)
+    subst (λ (s : Split). Buildable (firstHolder (s .plan)) (firstPart (s .form) t (2 ^ s .variable)) (without (s .variable) gs))
+    (dropped-split t n (splitTaken Dropped t n 0) (is-taken Dropped t n 0 (top-may r))) (split-buildable n 0 e r .first)

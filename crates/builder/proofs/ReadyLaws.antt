@@ -1,4 +1,4 @@
--- Every step that is taken is allowed: it leaves tables that trees can be built for, and room.
+-- Every split that is taken is allowed: it leaves tables that trees can be built for, and room.
 use mathlib.Core.Path.{_≡_, refl, sym, ap, ap₂, subst, _∙_}
 use mathlib.Core.Bool.{Bool, true, false, cond, _&&_, false≢true}
 use mathlib.Core.Logic.{_⊎_, inl, inr}
@@ -21,24 +21,24 @@ use Rattle.forms.specs.declared.Form.the-variants.{Drop, Less, Plus, ReducedPlu
 use Rattle.forms.proofs.TestLaws.{both}
 use Rattle.forms.proofs.FormLaws.{leafCount, consistent-rows}
 use Rattle.table.proofs.TableLaws.{length-tabulate}
-use Rattle.steps.proofs.HolderLaws.{keeps-once}
-use Rattle.steps.specs.InnerSteps.{formCount, formOf, isDrop, keepsHolder, allowedTop, firstTop, firstHolder, secondHolder, stepAt}
-use Rattle.steps.specs.declared.Holder.{Holder}
-use Rattle.steps.specs.declared.Holder.the-variants.{Absent, Dropped, Held}
-use Rattle.steps.specs.declared.Use.{Use}
-use Rattle.steps.specs.declared.Use.the-variants.{No, Plain, First, Second}
-use Rattle.steps.specs.declared.Step.{Step}
+use Rattle.splits.proofs.HolderLaws.{keeps-once}
+use Rattle.splits.specs.InnerSplits.{formCount, formOf, isDrop, keepsHolder, allowedTop, firstTop, firstHolder, secondHolder, splitTaken}
+use Rattle.splits.specs.declared.Holder.{Holder}
+use Rattle.splits.specs.declared.Holder.the-variants.{Absent, Dropped, Held}
+use Rattle.splits.specs.declared.Use.{Use}
+use Rattle.splits.specs.declared.Use.the-variants.{No, Plain, First, Second}
+use Rattle.splits.specs.declared.Split.{Split}
 use Rattle.builder.specs.InnerBuilding.{single, variableTree, without, mostBuilt, mostFor, mostFormed, Variables, HolderReady, Buildable, HolderTree}
 use Rattle.builder.proofs.JoinLaws.{group-holds, single-leaf}
 use Rattle.builder.proofs.RowLaws.{around, without-counts, split-row, half-rows, split-rows, split-same, may-use, usable-by, low-zero}
-use Rattle.builder.proofs.TakenLaws.{first-allowed, some-allowed, BelowSays, Top, Taken, step-taken}
+use Rattle.builder.proofs.TakenLaws.{first-allowed, some-allowed, BelowSays, Top, Taken, is-taken}
 
 -- the nodes of a variable's tree, with a holder of z nodes
 abbrev pub variableSize : ℕ → ℕ → ℕ
 variableSize z x = cond (eqb x 0) z 1
 
--- a step s at a table t over the variables gs
-pub record StepBuildable (m : Holder) (t : Table) (gs : List ℕ) (s : Step) : Type 0 where
+-- a split s of a table t over the variables gs
+pub record SplitBuildable (m : Holder) (t : Table) (gs : List ℕ) (s : Split) : Type 0 where
   pub below : s .variable < length gs
   pub may : usable (s .form) t (2 ^ s .variable) ≡ true
   pub variable : (getD gs (s .variable) 0 ≡ 0) ⊎ (isGroup (getD gs (s .variable) 0) ≡ true)
@@ -269,9 +269,9 @@ beside-room form n (suc j) v z x h e q = (
   below-room form j z x (mostFor Dropped (suc j) z) (mostFor Held (suc j) z) q (omega (arith, less-one j)),
 )
 
--- ---- the step
+-- ---- the split
 module _ {m : Holder} {t : Table} {gs : List ℕ} (n : ℕ) (e : length gs ≡ suc n) (r : Buildable m t gs) where
-  top-ready : (s : Step) → Top m t n s → StepBuildable m t gs s
+  top-ready : (s : Split) → Top m t n s → SplitBuildable m t gs s
   top-ready s T =
       let b : s .variable < length gs = omega (arith, T .at) in
       let may : usable (s .form) t (2 ^ s .variable) ≡ true
@@ -292,7 +292,7 @@ module _ {m : Holder} {t : Table} {gs : List ℕ} (n : ℕ) (e : length gs ≡ s
             (sym (T .plain)) (top-room m (s .form) t k z (getD gs (s .variable) 0) kind (T .may));
       }
 
-  below-by : (form : Form) (v : ℕ) → v < n → (u : Use) → (u ≡ No → ⊥) → BelowSays m form t (2 ^ v) u → StepBuildable m t gs (record { form = form; variable = v; plan = u })
+  below-by : (form : Form) (v : ℕ) → v < n → (u : Use) → (u ≡ No → ⊥) → BelowSays m form t (2 ^ v) u → SplitBuildable m t gs (record { form = form; variable = v; plan = u })
   below-by form v h No given b = absurd (given refl)
   below-by form v h Plain given (p, may) =
       let l : v < length gs = omega arith in
@@ -342,9 +342,9 @@ module _ {m : Holder} {t : Table} {gs : List ℕ} (n : ℕ) (e : length gs ≡ s
             (beside-room form n k v z (getD gs v 0) h (sym q ∙ e) g .1);
       }
 
-  taken-ready : (s : Step) → Taken m t n s → StepBuildable m t gs s
+  taken-ready : (s : Split) → Taken m t n s → SplitBuildable m t gs s
   taken-ready s (inl T) = top-ready s T
   taken-ready s (inr B) = below-by (s .form) (s .variable) (B .less) (s .plan) (B .some) (B .says)
 
-pub step-buildable : {m : Holder} {t : Table} {gs : List ℕ} (n i : ℕ) → length gs ≡ suc n → Buildable m t gs → StepBuildable m t gs (stepAt m t n i)
-step-buildable {m} {t} n i e r = taken-ready n e r (stepAt m t n i) (step-taken m t n i (top-may r))
+pub split-buildable : {m : Holder} {t : Table} {gs : List ℕ} (n i : ℕ) → length gs ≡ suc n → Buildable m t gs → SplitBuildable m t gs (splitTaken m t n i)
+split-buildable {m} {t} n i e r = taken-ready n e r (splitTaken m t n i) (is-taken m t n i (top-may r))

@@ -12,11 +12,11 @@ use Rattle.tree.specs.Pass.{Entry, group, operator, neither, entryOf}
 use Rattle.forms.specs.InnerForms.{Table, firstPart, secondPart}
 use Rattle.forms.specs.declared.Form.{Form}
 use Rattle.forms.specs.declared.Form.the-variants.{Drop, Less, Plus, ReducedPlus, JoinedLess, LessOutside, ReducedUnion, JoinedDifference}
-use Rattle.steps.specs.InnerSteps.{firstHolder, secondHolder, stepAt}
-use Rattle.steps.specs.declared.Holder.{Holder}
-use Rattle.steps.specs.declared.Step.{Step}
+use Rattle.splits.specs.InnerSplits.{firstHolder, secondHolder, splitTaken}
+use Rattle.splits.specs.declared.Holder.{Holder}
+use Rattle.splits.specs.declared.Split.{Split}
 use Rattle.builder.specs.InnerBuilding.{sizeOptional, join, leafOf, single, formed, variableTree, without, build, mostFor, mostFormed, Buildable, HolderTree}
-use Rattle.builder.proofs.ReadyLaws.{variableSize, step-buildable}
+use Rattle.builder.proofs.ReadyLaws.{variableSize, split-buildable}
 use Rattle.builder.proofs.WritingLaws.{union-none, without-length}
 
 pub join-size : (o : Operator) (a b : Option Tree) → sizeOptional (join o a b) ≤ sizeOptional a + sizeOptional b + 1
@@ -67,11 +67,11 @@ variable-size h x = go (eqb x 0)
     go true = omega arith
     go false = leaf-size (entryOf x)
 
--- the parts' trees after a step
-abbrev pub firstBuilt : (Holder → Table → ℕ → ℕ) → ℕ → Step → Table → List ℕ → Option Tree → Option Tree
+-- the parts' trees after a split
+abbrev pub firstBuilt : (Holder → Table → ℕ → ℕ) → ℕ → Split → Table → List ℕ → Option Tree → Option Tree
 firstBuilt choice n s t gs h = build choice n (firstHolder (s .plan)) (firstPart (s .form) t (2 ^ s .variable)) (without (s .variable) gs) h
 
-abbrev pub secondBuilt : (Holder → Table → ℕ → ℕ) → ℕ → Step → Table → List ℕ → Option Tree → Option Tree
+abbrev pub secondBuilt : (Holder → Table → ℕ → ℕ) → ℕ → Split → Table → List ℕ → Option Tree → Option Tree
 secondBuilt choice n s t gs h = build choice n (secondHolder (s .plan)) (secondPart (s .form) t (2 ^ s .variable)) (without (s .variable) gs) h
 
 pub build-size : (choice : Holder → Table → ℕ → ℕ) (k : ℕ) {m : Holder} {t : Table} {gs : List ℕ} (h : Option Tree) → Buildable m t gs → length gs ≡ k → HolderTree m h
@@ -79,8 +79,8 @@ pub build-size : (choice : Holder → Table → ℕ → ℕ) (k : ℕ) {m : Hold
 unfolding build
 build-size choice zero h r e q = omega arith
 build-size choice (suc n) {m} {t} {gs} h r e q =
-    let s = stepAt m t n (choice m t n) in
-    let R = step-buildable n (choice m t n) e r in
+    let s = splitTaken m t n (choice m t n) in
+    let R = split-buildable n (choice m t n) e r in
     let x = getD gs (s .variable) 0 in
     let l : length (without (s .variable) gs) ≡ n = omega (arith, without-length gs (s .variable) (R .below)) in
     let H = R .holders h q in

@@ -1,4 +1,4 @@
--- Every step that is taken, whichever candidate is chosen, is one of these: the highest variable by a form that may split it, or a
+-- Every split that is taken, whichever candidate is chosen, is one of these: the highest variable by a form that may split it, or a
 -- variable below it.
 use mathlib.Core.Path.{_≡_, refl, sym, ap, subst, _∙_}
 use mathlib.Core.Bool.{Bool, true, false, not, cond, false≢true}
@@ -12,12 +12,12 @@ use Rattle.forms.specs.InnerForms.{Table, half, firstPart, secondPart, usable}
 use Rattle.forms.specs.declared.Form.{Form}
 use Rattle.forms.specs.declared.Form.the-variants.{Drop}
 use Rattle.forms.proofs.SearchLaws.{first-fails}
-use Rattle.steps.specs.InnerSteps.{formCount, formOf, allowedTop, firstTop, canHold, dropsInFirst, useBelow, useOf, candidateForm, candidateVariable, candidateUse, stepBy, stepAt}
-use Rattle.steps.specs.declared.Holder.{Holder}
-use Rattle.steps.specs.declared.Holder.the-variants.{Absent, Dropped, Held}
-use Rattle.steps.specs.declared.Use.{Use}
-use Rattle.steps.specs.declared.Use.the-variants.{No, Plain, First, Second}
-use Rattle.steps.specs.declared.Step.{Step}
+use Rattle.splits.specs.InnerSplits.{formCount, formOf, allowedTop, firstTop, canHold, dropsInFirst, useBelow, useOf, candidateForm, candidateVariable, candidateUse, splitTakenBy, splitTaken}
+use Rattle.splits.specs.declared.Holder.{Holder}
+use Rattle.splits.specs.declared.Holder.the-variants.{Absent, Dropped, Held}
+use Rattle.splits.specs.declared.Use.{Use}
+use Rattle.splits.specs.declared.Use.the-variants.{No, Plain, First, Second}
+use Rattle.splits.specs.declared.Split.{Split}
 
 -- ---- the first form that may split the highest variable
 module _ (m : Holder) (t : Table) where
@@ -63,18 +63,18 @@ below-says Held form t step =
     go true false a true false eu ed ea ef eb = tt
     go true false a false b eu ed ea ef eb = tt
 
--- ---- the step that is taken
-pub record Top (m : Holder) (t : Table) (n : ℕ) (s : Step) : Type 0 where
+-- ---- the split that is taken
+pub record Top (m : Holder) (t : Table) (n : ℕ) (s : Split) : Type 0 where
   pub at : s .variable ≡ n
   pub plain : s .plan ≡ Plain
   pub may : allowedTop m (s .form) t ≡ true
 
-pub record Below (m : Holder) (t : Table) (n : ℕ) (s : Step) : Type 0 where
+pub record Below (m : Holder) (t : Table) (n : ℕ) (s : Split) : Type 0 where
   pub less : s .variable < n
   pub some : s .plan ≡ No → ⊥
   pub says : BelowSays m (s .form) t (2 ^ s .variable) (s .plan)
 
-abbrev pub Taken : Holder → Table → ℕ → Step → Type 0
+abbrev pub Taken : Holder → Table → ℕ → Split → Type 0
 Taken m t n s = Top m t n s ⊎ Below m t n s
 
 not-plain : Plain ≡ No → ⊥
@@ -87,32 +87,32 @@ not-second : Second ≡ No → ⊥
 not-second e = let z : _≡_ {A = ℕ} 0 1 = cc in omega arith
 
 module _ (m : Holder) (t : Table) (n i : ℕ) (may : allowedTop m (formOf (firstTop m t)) t ≡ true) where
-  fallback : Taken m t n (stepBy No m t n i)
+  fallback : Taken m t n (splitTakenBy No m t n i)
   fallback = inl (record { at = refl; plain = refl; may = may })
 
-  below : (v : ℕ) → candidateVariable n i ≡ v → v < n → (u : Use) → BelowSays m (candidateForm i) t (2 ^ candidateVariable n i) u → Taken m t n (stepBy u m t n i)
+  below : (v : ℕ) → candidateVariable n i ≡ v → v < n → (u : Use) → BelowSays m (candidateForm i) t (2 ^ candidateVariable n i) u → Taken m t n (splitTakenBy u m t n i)
   below v e h No b = fallback
   below v e h Plain b = inr (record { less = omega arith; some = not-plain; says = b })
   below v e h First b = inr (record { less = omega arith; some = not-first; says = b })
   below v e h Second b = inr (record { less = omega arith; some = not-second; says = b })
 
-  top : candidateVariable n i ≡ n → (b : Bool) → allowedTop m (candidateForm i) t ≡ b → Taken m t n (stepBy (cond b Plain No) m t n i)
+  top : candidateVariable n i ≡ n → (b : Bool) → allowedTop m (candidateForm i) t ≡ b → Taken m t n (splitTakenBy (cond b Plain No) m t n i)
   top e true q = inl (record { at = e; plain = refl; may = q })
   top e false q = fallback
 
-  pub step-taken : Taken m t n (stepAt m t n i)
-  unfolding stepAt candidateUse useOf
-  step-taken = go (ltb (i / formCount) n) refl
+  pub is-taken : Taken m t n (splitTaken m t n i)
+  unfolding splitTaken candidateUse useOf
+  is-taken = go (ltb (i / formCount) n) refl
     where
-      go : (b : Bool) → ltb (i / formCount) n ≡ b → Taken m t n (stepBy (cond (ltb (candidateVariable n i) n) (useBelow m (candidateForm i) t (2 ^ candidateVariable n i)) (cond (allowedTop m (candidateForm i) t) Plain No)) m t n i)
+      go : (b : Bool) → ltb (i / formCount) n ≡ b → Taken m t n (splitTakenBy (cond (ltb (candidateVariable n i) n) (useBelow m (candidateForm i) t (2 ^ candidateVariable n i)) (cond (allowedTop m (candidateForm i) t) Plain No)) m t n i)
       go true e =
           let v : candidateVariable n i ≡ i / formCount = ap (λ (b : Bool). cond b (i / formCount) n) e in
           let h : i / formCount < n = ltb-true _ _ e in
-          subst (λ (b : Bool). Taken m t n (stepBy (cond b (useBelow m (candidateForm i) t (2 ^ candidateVariable n i)) (cond (allowedTop m (candidateForm i) t) Plain No)) m t n i))
+          subst (λ (b : Bool). Taken m t n (splitTakenBy (cond b (useBelow m (candidateForm i) t (2 ^ candidateVariable n i)) (cond (allowedTop m (candidateForm i) t) Plain No)) m t n i))
           (sym (lt-ltb (candidateVariable n i) n (omega arith)))
           (below (i / formCount) v h (useBelow m (candidateForm i) t (2 ^ candidateVariable n i)) (below-says m (candidateForm i) t (2 ^ candidateVariable n i)))
       go false e =
           let v : candidateVariable n i ≡ n = ap (λ (b : Bool). cond b (i / formCount) n) e in
-          subst (λ (b : Bool). Taken m t n (stepBy (cond b (useBelow m (candidateForm i) t (2 ^ candidateVariable n i)) (cond (allowedTop m (candidateForm i) t) Plain No)) m t n i))
+          subst (λ (b : Bool). Taken m t n (splitTakenBy (cond b (useBelow m (candidateForm i) t (2 ^ candidateVariable n i)) (cond (allowedTop m (candidateForm i) t) Plain No)) m t n i))
           (sym (le-ltb (candidateVariable n i) n (omega arith)))
           (top v (allowedTop m (candidateForm i) t) refl)

@@ -14,40 +14,40 @@ use Rattle.tree.proofs.WritingLaws.{wrote-nothing, wrote-as}
 use Rattle.forms.specs.InnerForms.{Table, tableOf, half, firstPart, secondPart, Holds, Parted}
 use Rattle.forms.specs.declared.Half.{Half}
 use Rattle.forms.specs.declared.Parts.{Parts}
-use Rattle.steps.specs.InnerSteps.{firstHolder, secondHolder, choose, Sized}
-use Rattle.steps.specs.declared.Holder.{Holder}
-use Rattle.steps.specs.declared.Step.{Step}
-use Rattle.builder.specs.InnerBuilding.{postfixOptional, sizeOptional, outer, formed, variableTree, without, build, mostFor, mostFormed, between, variableList, leftWritten, endsThere, beforeWritten, afterWritten, Ready, stepOf, Turned, HolderTree, Holding, Built}
+use Rattle.splits.specs.InnerSplits.{firstHolder, secondHolder, choose, Sized}
+use Rattle.splits.specs.declared.Holder.{Holder}
+use Rattle.splits.specs.declared.Split.{Split}
+use Rattle.builder.specs.InnerBuilding.{postfixOptional, sizeOptional, outer, formed, variableTree, without, build, mostFor, mostFormed, between, variableList, leftWritten, endsThere, beforeWritten, afterWritten, Ready, splitChosen, Turned, HolderTree, Holding, Built}
 use Rattle.builder.specs.declared.Turn.{Turn}
 use Rattle.builder.proofs.WritingLaws.{optional-length, variable-list, has-right, form-ends, form-wrote, without-length, left-room, whole-room}
-use Rattle.builder.proofs.ReadyLaws.{variableSize, StepBuildable, step-buildable}
+use Rattle.builder.proofs.ReadyLaws.{variableSize, SplitBuildable, split-buildable}
 use Rattle.builder.proofs.SizeLaws.{most-grows, firstBuilt, secondBuilt, build-size}
 
--- ---- the step
+-- ---- the split
 module _ {m : Holder} {t : Table} {gs : List ℕ} {n : ℕ} (e : length gs ≡ suc n) (ready : Ready m t gs) where
   pub turn-sized : Sized (t .on) (t .off) (suc n)
   turn-sized = record { rows = ready .table .rows ∙ ap (λ (k : ℕ). 2 ^ k) e; same = ready .table .same; most = omega (arith, ready .few) }
 
-  turn-step : StepBuildable m t gs (stepOf m t n)
-  turn-step = step-buildable n (choose m t n) e (ready .table)
+  turn-split : SplitBuildable m t gs (splitChosen m t n)
+  turn-split = split-buildable n (choose m t n) e (ready .table)
 
-  pub turn-below : {s : Step} → s ≡ stepOf m t n → s .variable < length gs
-  turn-below q = rw q (turn-step .below)
+  pub turn-below : {s : Split} → s ≡ splitChosen m t n → s .variable < length gs
+  turn-below q = rw q (turn-split .below)
 
-  -- the step's parts, in arrays
-  pub turned : {s : Step} {p : ℕ} {parts : Parts} {rest : List ℕ} {ma mb : Holder} → s ≡ stepOf m t n → p ≡ 2 ^ s .variable → Parted parts (s .form) t p
+  -- the split's parts, in arrays
+  pub turned : {s : Split} {p : ℕ} {parts : Parts} {rest : List ℕ} {ma mb : Holder} → s ≡ splitChosen m t n → p ≡ 2 ^ s .variable → Parted parts (s .form) t p
       → take (length gs - 1) rest ≡ without (s .variable) gs → ma ≡ firstHolder (s .plan) → mb ≡ secondHolder (s .plan)
       → Turned m t gs n (record { form = s .form; x = getD gs (s .variable) 0; rest = rest; a = parts .first; b = parts .second; ma = ma; mb = mb })
   turned {s} {p} {parts} {rest} q w h u v z =
       let k : length gs - 1 ≡ n = omega arith in
       record {
-        form = ap (λ (s : Step). s .form) q;
-        x = ap (λ (s : Step). getD gs (s .variable) 0) q;
+        form = ap (λ (s : Split). s .form) q;
+        x = ap (λ (s : Split). getD gs (s .variable) 0) q;
         rest = rw (sym q, sym k) u;
         a = rw (sym q, sym w) (h .first);
         b = rw (sym q, sym w) (h .second);
-        ma = v ∙ ap (λ (s : Step). firstHolder (s .plan)) q;
-        mb = z ∙ ap (λ (s : Step). secondHolder (s .plan)) q;
+        ma = v ∙ ap (λ (s : Split). firstHolder (s .plan)) q;
+        mb = z ∙ ap (λ (s : Split). secondHolder (s .plan)) q;
       }
 
 -- ---- what the call for a part is given: its holder mc, `count` rows and n variables of arrays, which are the part's
@@ -137,58 +137,58 @@ abbrev pub listX : List ℕ → Turn → List ℕ
 listX hs r = variableList hs (r .x)
 
 module _ {d : ℕ} {m : Holder} {t : Table} {gs hs out : List ℕ} {at n : ℕ} {r : Turn} (b : Begun d m t gs hs out at n r) where
-  s : StepBuildable m t gs (stepOf m t n)
-  s = turn-step (b .count) (b .ready)
+  s : SplitBuildable m t gs (splitChosen m t n)
+  s = turn-split (b .count) (b .ready)
 
   rows : half t ≡ 2 ^ n
   rows = omega (arith, turn-sized (b .count) (b .ready) .rows, two-pow-succ n)
 
-  others : length (without (stepOf m t n .variable) gs) ≡ n
-  others = omega (arith, without-length gs (stepOf m t n .variable) (s .below), b .count)
+  others : length (without (splitChosen m t n .variable) gs) ≡ n
+  others = omega (arith, without-length gs (splitChosen m t n .variable) (s .below), b .count)
 
-  few : length (without (stepOf m t n .variable) gs) ≤ mostGroups
+  few : length (without (splitChosen m t n .variable) gs) ≤ mostGroups
   few = omega (arith, others, b .count, b .ready .few)
 
-  pub given-a : Given (firstHolder (stepOf m t n .plan)) (firstPart (stepOf m t n .form) t (2 ^ stepOf m t n .variable)) (without (stepOf m t n .variable) gs) n (half t)
+  pub given-a : Given (firstHolder (splitChosen m t n .plan)) (firstPart (splitChosen m t n .form) t (2 ^ splitChosen m t n .variable)) (without (splitChosen m t n .variable) gs) n (half t)
       (r .ma) (r .a) (r .rest)
   given-a = given (record { few = few; table = s .first }) others rows (b .turned .ma) (b .turned .a) (b .turned .rest)
 
-  pub given-b : Given (secondHolder (stepOf m t n .plan)) (secondPart (stepOf m t n .form) t (2 ^ stepOf m t n .variable)) (without (stepOf m t n .variable) gs) n (half t)
+  pub given-b : Given (secondHolder (splitChosen m t n .plan)) (secondPart (splitChosen m t n .form) t (2 ^ splitChosen m t n .variable)) (without (splitChosen m t n .variable) gs) n (half t)
       (r .mb) (r .b) (r .rest)
   given-b = given (record { few = few; table = s .second }) others rows (b .turned .mb) (b .turned .b) (b .turned .rest)
 
   -- the trees of a and b, where h is the holder's
   abbrev treeA : Option Tree → Option Tree
-  treeA h = firstBuilt choose n (stepOf m t n) t gs h
+  treeA h = firstBuilt choose n (splitChosen m t n) t gs h
 
   abbrev treeB : Option Tree → Option Tree
-  treeB h = secondBuilt choose n (stepOf m t n) t gs h
+  treeB h = secondBuilt choose n (splitChosen m t n) t gs h
 
   -- the variable's tree x, and the table's
-  is-variable : (h : Option Tree) {x : Tree} → hs ≡ postfixOptional h → variableTree h (getD gs (stepOf m t n .variable) 0) ≡ some x → listX hs r ≡ postfix x
-  is-variable h q e = rw (b .turned .x) (variable-list h (getD gs (stepOf m t n .variable) 0) q (s .variable)) ∙ ap postfixOptional e
+  is-variable : (h : Option Tree) {x : Tree} → hs ≡ postfixOptional h → variableTree h (getD gs (splitChosen m t n .variable) 0) ≡ some x → listX hs r ≡ postfix x
+  is-variable h q e = rw (b .turned .x) (variable-list h (getD gs (splitChosen m t n .variable) 0) q (s .variable)) ∙ ap postfixOptional e
 
-  is-tree : (h : Option Tree) {x : Tree} → variableTree h (getD gs (stepOf m t n .variable) 0) ≡ some x
+  is-tree : (h : Option Tree) {x : Tree} → variableTree h (getD gs (splitChosen m t n .variable) 0) ≡ some x
       → formed (r .form) (some x) (treeA h) (treeB h) ≡ build choose (length gs) m t gs h
   unfolding build
   is-tree h e = rw (b .turned .form, b .count, sym e)
 
   -- room for them
   abbrev mostA : ℕ
-  mostA = mostFor (firstHolder (stepOf m t n .plan)) n (length hs)
+  mostA = mostFor (firstHolder (splitChosen m t n .plan)) n (length hs)
 
   abbrev mostB : ℕ
-  mostB = mostFor (secondHolder (stepOf m t n .plan)) n (length hs)
+  mostB = mostFor (secondHolder (splitChosen m t n .plan)) n (length hs)
 
   form-room : at + mostFormed (r .form) (length (listX hs r)) mostA mostB ≤ length out
   form-room =
       let k = rw (b .count) at (b .room) in
       rw (b .turned .form, b .turned .x, variable-length) (omega (arith, s .room n (length hs) (b .count)))
 
-  holding-a : Holding (firstHolder (stepOf m t n .plan)) hs
+  holding-a : Holding (firstHolder (splitChosen m t n .plan)) hs
   holding-a = (b .holding .0, b .holding .1, s .holders (b .holding .0) (b .holding .2) .0)
 
-  holding-b : Holding (secondHolder (stepOf m t n .plan)) hs
+  holding-b : Holding (secondHolder (splitChosen m t n .plan)) hs
   holding-b = (b .holding .0, b .holding .1, s .holders (b .holding .0) (b .holding .2) .1)
 
   fewer : length (take n (r .rest)) < d

@@ -1,5 +1,5 @@
 -- The builder: a small tree for a table. No caller has to believe any of this: what a built tree selects, over which groups it is,
--- how large, and where the holder is, is proved in proofs/, whichever steps are chosen.
+-- how large, and where the holder is, is proved in proofs/, whichever splits are chosen.
 use mathlib.Core.Path.{_≡_}
 use mathlib.Core.Bool.{Bool, true, false, cond, _&&_, _||_}
 use mathlib.Core.List.{List, [], _∷_, _++_}
@@ -13,10 +13,10 @@ use Rattle.tree.specs.InnerWriting.{Wrote}
 use Rattle.forms.specs.InnerForms.{Table, tableOf, half, rowAt, firstPart, secondPart, usable, Holds}
 use Rattle.forms.specs.declared.Form.{Form}
 use Rattle.forms.specs.declared.Form.the-variants.{Drop, Less, Plus, ReducedPlus, JoinedLess, LessOutside, ReducedUnion, JoinedDifference}
-use Rattle.steps.specs.InnerSteps.{canHold, firstHolder, secondHolder, stepAt, choose}
-use Rattle.steps.specs.declared.Holder.{Holder}
-use Rattle.steps.specs.declared.Holder.the-variants.{Absent, Dropped, Held}
-use Rattle.steps.specs.declared.Step.{Step}
+use Rattle.splits.specs.InnerSplits.{canHold, firstHolder, secondHolder, splitTaken, choose}
+use Rattle.splits.specs.declared.Holder.{Holder}
+use Rattle.splits.specs.declared.Holder.the-variants.{Absent, Dropped, Held}
+use Rattle.splits.specs.declared.Split.{Split}
 use Rattle.builder.specs.declared.Turn.{Turn}
 
 -- ---- no tree or a tree: its list, and its nodes
@@ -89,11 +89,11 @@ variableTree h x = cond (eqb x 0) h (single x)
 abbrev pub without : ℕ → List ℕ → List ℕ
 without v gs = take v gs ++ drop (v + 1) gs
 
--- `choice` says which candidate to take as the next step; one that is not allowed is not taken (`stepAt`)
+-- `choice` says which candidate to take as the next split; one that is not allowed is not taken (`splitTaken`)
 unfoldable pub build : (Holder → Table → ℕ → ℕ) → ℕ → Holder → Table → List ℕ → Option Tree → Option Tree
 build choice zero m t gs h = none
 build choice (suc n) m t gs h =
-    let s = stepAt m t n (choice m t n) in
+    let s = splitTaken m t n (choice m t n) in
     formed (s .form) (variableTree h (getD gs (s .variable) 0))
     (build choice n (firstHolder (s .plan)) (firstPart (s .form) t (2 ^ s .variable)) (without (s .variable) gs) h)
     (build choice n (secondHolder (s .plan)) (secondPart (s .form) t (2 ^ s .variable)) (without (s .variable) gs) h)
@@ -200,19 +200,19 @@ pub record Ready (m : Holder) (t : Table) (gs : List ℕ) : Type 0 where
   pub few : length gs ≤ mostGroups
   pub table : Buildable m t gs
 
--- the step that is taken at a table over n variables and one more
-abbrev pub stepOf : Holder → Table → ℕ → Step
-stepOf m t n = stepAt m t n (choose m t n)
+-- the split that is taken at a table over n variables and one more
+abbrev pub splitChosen : Holder → Table → ℕ → Split
+splitChosen m t n = splitTaken m t n (choose m t n)
 
 -- its form and its variable, the other variables, and the rows of a and b and what becomes of the holder there
 pub record Turned (m : Holder) (t : Table) (gs : List ℕ) (n : ℕ) (r : Turn) : Type 0 where
-  pub form : r .form ≡ stepOf m t n .form
-  pub x : r .x ≡ getD gs (stepOf m t n .variable) 0
-  pub rest : take n (r .rest) ≡ without (stepOf m t n .variable) gs
-  pub a : Holds (r .a) (half t) (firstPart (stepOf m t n .form) t (2 ^ stepOf m t n .variable))
-  pub b : Holds (r .b) (half t) (secondPart (stepOf m t n .form) t (2 ^ stepOf m t n .variable))
-  pub ma : r .ma ≡ firstHolder (stepOf m t n .plan)
-  pub mb : r .mb ≡ secondHolder (stepOf m t n .plan)
+  pub form : r .form ≡ splitChosen m t n .form
+  pub x : r .x ≡ getD gs (splitChosen m t n .variable) 0
+  pub rest : take n (r .rest) ≡ without (splitChosen m t n .variable) gs
+  pub a : Holds (r .a) (half t) (firstPart (splitChosen m t n .form) t (2 ^ splitChosen m t n .variable))
+  pub b : Holds (r .b) (half t) (secondPart (splitChosen m t n .form) t (2 ^ splitChosen m t n .variable))
+  pub ma : r .ma ≡ firstHolder (splitChosen m t n .plan)
+  pub mb : r .mb ≡ secondHolder (splitChosen m t n .plan)
 
 -- the holder has a tree where it is a variable
 abbrev pub HolderTree : Holder → Option Tree → Type 0

@@ -1,4 +1,4 @@
-// Small trees for tables whose rows are 0, 1 or free: one variable at a time, by the step that `steps` takes.
+// Small trees for tables whose rows are 0, 1 or free: one variable at a time, by the split that `splits` chooses.
 ghost use mathlib.Core.Path.{_≡_};
 ghost use mathlib.Core.List.{[], _∷_};
 ghost use Prim.Native.Nat.{suc, _+_, _-_, _<_, _≤_};
@@ -10,7 +10,7 @@ ghost use Rattle.forms.specs.InnerForms.{tableOf};
 ghost use Rattle.builder.specs.InnerBuilding.{outer, without, mostFor, Ready, Turned, Holding, Built, between, variableList, joinedBy, leftSign, rightKind, leftWritten, endsThere, beforeWritten, afterWritten};
 use forms::Form;
 use forms::Half;
-use steps::Holder;
+use splits::Holder;
 use tree::MOST_GROUPS;
 
 // ---- writing
@@ -193,7 +193,7 @@ fn without(groups: &[u16], v: usize) -> [u16; MOST_GROUPS]
 
 // ---- the tree of a table
 
-// A step at a table: its form, its variable x and the other variables, and the rows of a and b and what becomes of the holder there.
+// A split of a table: its form, its variable x and the other variables, and the rows of a and b and what becomes of the holder there.
 struct Turn {
     form: Form,
     x: u16,
@@ -204,15 +204,15 @@ struct Turn {
     mb: Holder,
 }
 
-// The step that is taken at a table over n variables and one more.
+// The split that is taken at a table over n variables and one more.
 fn turn_of(on: &[bool], off: &[bool], m: Holder, groups: &[u16], n: usize) -> Turn
     requires { ⌜ Ready m (tableOf (now on) (now off)) (now groups) × (length (now groups) ≡ suc n) ⌝ }
     ensures { λ r. ⌜ Turned m (tableOf (now (on .entry)) (now (off .entry))) (now (groups .entry)) n r ⌝ }
 {
-    let step = steps::step_of(on, off, n, m);
-    let form = step.form;
-    let v = step.variable;
-    let plan = step.plan;
+    let split = splits::split_taken(on, off, n, m);
+    let form = split.form;
+    let v = split.variable;
+    let plan = split.plan;
     let power = forms::power(v);
     let parts = forms::split(on, off, power, form);
     let a = parts.first;
@@ -223,8 +223,8 @@ fn turn_of(on: &[bool], off: &[bool], m: Holder, groups: &[u16], n: usize) -> Tu
         rest: without(groups, v),
         a,
         b,
-        ma: steps::first_holder(plan),
-        mb: steps::second_holder(plan),
+        ma: splits::first_holder(plan),
+        mb: splits::second_holder(plan),
     }
 }
 

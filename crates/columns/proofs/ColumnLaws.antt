@@ -17,8 +17,8 @@ use Rattle.tree.proofs.WritingLaws.{wrote-then, wrote-as, wrote-take}
 use Rattle.table.specs.InnerTable.{rowCount}
 use Rattle.forms.specs.InnerForms.{tableOf}
 use Rattle.forms.proofs.SplitLaws.{Filled, filled-none, filled-more, filled-all}
-use Rattle.steps.specs.InnerSteps.{choose}
-use Rattle.steps.specs.declared.Holder.the-variants.{Absent, Held}
+use Rattle.splits.specs.InnerSplits.{choose}
+use Rattle.splits.specs.declared.Holder.the-variants.{Absent, Held}
 use Rattle.builder.specs.InnerBuilding.{postfixOptional, join, single, build, mostBuilt, mostFor, Ready, between, Holding}
 use Rattle.builder.proofs.ReadyLaws.{variable-in}
 use Rattle.builder.proofs.JoinLaws.{single-leaf}

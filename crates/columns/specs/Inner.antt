@@ -8,8 +8,8 @@ use lib.ListN.{length, take}
 use Rattle.tree.specs.Tree.{Tree, isGroup, isIn}
 use Rattle.table.specs.InnerTable.{rowCount, tabulate, rowsOf}
 use Rattle.forms.specs.InnerForms.{Table, tableOf}
-use Rattle.steps.specs.declared.Holder.{Holder}
-use Rattle.steps.specs.declared.Holder.the-variants.{Absent, Held}
+use Rattle.splits.specs.declared.Holder.{Holder}
+use Rattle.splits.specs.declared.Holder.the-variants.{Absent, Held}
 use Rattle.builder.specs.InnerBuilding.{postfixOptional, mostBuilt, Ready, Built}
 use Rattle.columns.specs.InnerJoining.{firstRows, columnTable, heldTable, holderTree, columnsTree, constantTree}
 use Rattle.columns.specs.declared.Rows.{Rows}

@@ -9,8 +9,8 @@ use lib.ListN.{length, getD}
 use Rattle.tree.specs.Tree.{union, difference, Tree}
 use Rattle.table.specs.InnerTable.{tabulate}
 use Rattle.forms.specs.InnerForms.{Table}
-use Rattle.steps.specs.InnerSteps.{choose}
-use Rattle.steps.specs.declared.Holder.the-variants.{Absent, Held}
+use Rattle.splits.specs.InnerSplits.{choose}
+use Rattle.splits.specs.declared.Holder.the-variants.{Absent, Held}
 use Rattle.builder.specs.InnerBuilding.{join, single, build}
 use Rattle.columns.specs.declared.Choice.{Choice}
 use Rattle.columns.specs.declared.Choice.the-variants.{Never, Constant, Columns}

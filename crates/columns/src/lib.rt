@@ -16,7 +16,7 @@ ghost use Rattle.columns.specs.Inner.{Scanned, HasRows, tableFrom, Built
 use builder::build;
 use builder::operate;
 use builder::put3;
-use steps::Holder;
+use splits::Holder;
 use table::ROWS;
 use tree::MOST_GROUPS;
 

@@ -17,7 +17,7 @@ use Rattle.tree.proofs.TreeLaws.{or-false, is-in-append, or-cases, in-left, in-
 use Rattle.table.specs.InnerTable.{filling}
 use Rattle.table.proofs.TableLaws.{rowOf, Tabled, row-below, row-append, row-agree, row-filling, selects-row, value-zero}
 use Rattle.forms.proofs.SearchLaws.{Fails, first-fails}
-use Rattle.steps.specs.InnerSteps.{choose, canHold}
+use Rattle.splits.specs.InnerSplits.{choose, canHold}
 use Rattle.builder.specs.InnerBuilding.{join, single, variableTree, build, Buildable}
 use Rattle.builder.proofs.JoinLaws.{selectsOptional, OverOptional, join-selects, join-over, single-leaf, single-over, group-holds}
 use Rattle.forms.proofs.TestLaws.{beq-true}
@@ -25,7 +25,7 @@ use Rattle.builder.proofs.ReadyLaws.{variable-in}
 use Rattle.builder.proofs.BuildLaws.{group-over, build-over, build-some}
 use Rattle.columns.proofs.ColumnLaws.{row-column}
 use Rattle.columns.specs.InnerJoining.{differs, columnTable, heldTable, firstRows, holderTree, columnsTree, constantTree, treeFor}
-use Rattle.steps.specs.declared.Holder.the-variants.{Absent, Held}
+use Rattle.splits.specs.declared.Holder.the-variants.{Absent, Held}
 use Rattle.columns.specs.InnerChoosing.{agrees, failing, settled, chosenAt, choice}
 use Rattle.columns.specs.declared.Choice.{Choice}
 use Rattle.columns.specs.declared.Choice.the-variants.{Never, Constant, Columns}

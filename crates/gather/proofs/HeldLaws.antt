@@ -14,18 +14,18 @@ use Rattle.table.specs.InnerTable.{tabulate}
 use Rattle.forms.specs.InnerForms.{Table, half, lowRow, firstPart, secondPart, usable, someOn}
 use Rattle.forms.specs.declared.Form.{Form}
 use Rattle.forms.specs.declared.Form.the-variants.{Drop, Less, Plus, ReducedPlus, JoinedLess, LessOutside, ReducedUnion, JoinedDifference}
-use Rattle.steps.specs.InnerSteps.{keepsHolder, allowedTop, dropsInFirst, firstHolder, secondHolder, stepAt}
-use Rattle.steps.specs.declared.Holder.{Holder}
-use Rattle.steps.specs.declared.Holder.the-variants.{Absent, Dropped, Held}
-use Rattle.steps.specs.declared.Use.{Use}
-use Rattle.steps.specs.declared.Use.the-variants.{No, Plain, First, Second}
-use Rattle.steps.specs.declared.Step.{Step}
+use Rattle.splits.specs.InnerSplits.{keepsHolder, allowedTop, dropsInFirst, firstHolder, secondHolder, splitTaken}
+use Rattle.splits.specs.declared.Holder.{Holder}
+use Rattle.splits.specs.declared.Holder.the-variants.{Absent, Dropped, Held}
+use Rattle.splits.specs.declared.Use.{Use}
+use Rattle.splits.specs.declared.Use.the-variants.{No, Plain, First, Second}
+use Rattle.splits.specs.declared.Split.{Split}
 use Rattle.builder.specs.InnerBuilding.{join, leftTree, rightTree, outer, formed, variableTree, without, build, Buildable}
 use Rattle.forms.proofs.TestLaws.{both}
 use Rattle.builder.proofs.JoinLaws.{OverOptional, join-over}
 use Rattle.builder.proofs.RowLaws.{half-rows, without-counts, usable-by}
-use Rattle.builder.proofs.TakenLaws.{BelowSays, Taken, step-taken}
-use Rattle.builder.proofs.ReadyLaws.{StepBuildable, step-buildable, top-may, in-without, variable-in, group-tree, without-last, without-below}
+use Rattle.builder.proofs.TakenLaws.{BelowSays, Taken, is-taken}
+use Rattle.builder.proofs.ReadyLaws.{SplitBuildable, split-buildable, top-may, in-without, variable-in, group-tree, without-last, without-below}
 use Rattle.builder.proofs.BuildLaws.{left-over, right-over, group-over, build-over, build-some, build-dropped, dropped-part}
 use Rattle.gather.specs.Gathering.{Gathered}
 use Rattle.gather.proofs.GatheringLaws.{unmarked, gathered-left, gathered-right}
@@ -249,7 +249,7 @@ module _ {m : ℕ → Bool} (h : Option Tree) (choice : Holder → Table → ℕ
 
   -- the holder is split
   top-held : (n : ℕ) {t : Table} (us : List ℕ) → length us ≡ n → Buildable Held t (us ++ (0 ∷ [])) → Others m us → GatheredSome m h → (form : Form) → allowedTop Held form t ≡ true
-      → StepBuildable Held t (us ++ (0 ∷ [])) (record { form = form; variable = n; plan = Plain })
+      → SplitBuildable Held t (us ++ (0 ∷ [])) (record { form = form; variable = n; plan = Plain })
       → GatheredSome m (formed form (variableTree h (getD (us ++ (0 ∷ [])) n 0))
       (build choice n Absent (firstPart form t (2 ^ n)) (without n (us ++ (0 ∷ []))) h)
       (build choice n Absent (secondPart form t (2 ^ n)) (without n (us ++ (0 ∷ []))) h))
@@ -291,7 +291,7 @@ module _ {m : ℕ → Bool} (h : Option Tree) (choice : Holder → Table → ℕ
     variable-over = subst (λ (x : ℕ). OverOptional (unmarked m) (variableTree h x)) (sym here-is)
         (group-over (unmarked m) h (getD us v 0) (o .groups (getD us v 0) (variable-in us v inside)) (ap not (o .unmarked (getD us v 0) (variable-in us v inside))))
 
-    below-held : (u : Use) → (u ≡ No → ⊥) → BelowSays Held form t (2 ^ v) u → StepBuildable Held t (us ++ (0 ∷ [])) (record { form = form; variable = v; plan = u }) → GatheredSome m h
+    below-held : (u : Use) → (u ≡ No → ⊥) → BelowSays Held form t (2 ^ v) u → SplitBuildable Held t (us ++ (0 ∷ [])) (record { form = form; variable = v; plan = u }) → GatheredSome m h
         → ((t′ : Table) → Buildable Held t′ (without v us ++ (0 ∷ [])) → GatheredSome m (build choice (suc n) Held t′ (without v us ++ (0 ∷ [])) h))
         → GatheredSome m (formed form (variableTree h (getD (us ++ (0 ∷ [])) v 0))
         (build choice (suc n) (firstHolder u) (firstPart form t (2 ^ v)) (without v (us ++ (0 ∷ []))) h)
@@ -312,18 +312,18 @@ module _ {m : ℕ → Bool} (h : Option Tree) (choice : Holder → Table → ℕ
         (kept-by form t (2 ^ v) (build choice (suc n) Dropped (firstPart form t (2 ^ v)) (without v us ++ (0 ∷ [])) h) (b .2) (b .4) (dropped-some h choice n (without v us) rest-length A (rest-others .once)))
         B x variable-over (dropped-over n (without v us) rest-length A rest-others))
 
-  taken-held : (n : ℕ) {t : Table} (us : List ℕ) → length us ≡ n → Buildable Held t (us ++ (0 ∷ [])) → Others m us → GatheredSome m h → (s : Step) → Taken Held t n s
-      → StepBuildable Held t (us ++ (0 ∷ [])) s
+  taken-held : (n : ℕ) {t : Table} (us : List ℕ) → length us ≡ n → Buildable Held t (us ++ (0 ∷ [])) → Others m us → GatheredSome m h → (s : Split) → Taken Held t n s
+      → SplitBuildable Held t (us ++ (0 ∷ [])) s
       → ((k : ℕ) → n ≡ suc k → (v : ℕ) → v < n → (t′ : Table) → Buildable Held t′ (without v us ++ (0 ∷ [])) → GatheredSome m (build choice n Held t′ (without v us ++ (0 ∷ [])) h))
       → GatheredSome m (formed (s .form) (variableTree h (getD (us ++ (0 ∷ [])) (s .variable) 0))
       (build choice n (firstHolder (s .plan)) (firstPart (s .form) t (2 ^ s .variable)) (without (s .variable) (us ++ (0 ∷ []))) h)
       (build choice n (secondHolder (s .plan)) (secondPart (s .form) t (2 ^ s .variable)) (without (s .variable) (us ++ (0 ∷ []))) h))
   taken-held n {t} us e r o g s (inl T) S again =
       let q : s ≡ record { form = s .form; variable = n; plan = Plain } = ap₂ (λ (v : ℕ) (u : Use). record { form = s .form; variable = v; plan = u }) (T .at) (T .plain) in
-      subst (λ (k : Step). GatheredSome m (formed (k .form) (variableTree h (getD (us ++ (0 ∷ [])) (k .variable) 0))
+      subst (λ (k : Split). GatheredSome m (formed (k .form) (variableTree h (getD (us ++ (0 ∷ [])) (k .variable) 0))
       (build choice n (firstHolder (k .plan)) (firstPart (k .form) t (2 ^ k .variable)) (without (k .variable) (us ++ (0 ∷ []))) h)
       (build choice n (secondHolder (k .plan)) (secondPart (k .form) t (2 ^ k .variable)) (without (k .variable) (us ++ (0 ∷ []))) h)))
-      (sym q) (top-held n us e r o g (s .form) (T .may) (subst (StepBuildable Held t (us ++ (0 ∷ []))) q S))
+      (sym q) (top-held n us e r o g (s .form) (T .may) (subst (SplitBuildable Held t (us ++ (0 ∷ []))) q S))
   taken-held zero {t} us e r o g s (inr B) S again = absurd (omega (arith, B .less))
   taken-held (suc n) {t} us e r o g s (inr B) S again =
       below-held n us e r o (s .form) (s .variable) (B .less) (s .plan) (B .some) (B .says) S g (again n refl (s .variable) (B .less))
@@ -332,8 +332,8 @@ module _ {m : ℕ → Bool} (h : Option Tree) (choice : Holder → Table → ℕ
       → GatheredSome m (build choice (suc n) Held t (us ++ (0 ∷ [])) h)
   unfolding build
   held-gathered zero {t} us e r o g =
-      taken-held zero us e r o g (stepAt Held t zero (choice Held t zero)) (step-taken Held t zero (choice Held t zero) (top-may r)) (step-buildable zero (choice Held t zero) (end-length us zero e) r)
+      taken-held zero us e r o g (splitTaken Held t zero (choice Held t zero)) (is-taken Held t zero (choice Held t zero) (top-may r)) (split-buildable zero (choice Held t zero) (end-length us zero e) r)
       (λ k q. absurd (omega arith))
   held-gathered (suc n) {t} us e r o g =
-      taken-held (suc n) us e r o g (stepAt Held t (suc n) (choice Held t (suc n))) (step-taken Held t (suc n) (choice Held t (suc n)) (top-may r)) (step-buildable (suc n) (choice Held t (suc n)) (end-length us (suc n) e) r)
+      taken-held (suc n) us e r o g (splitTaken Held t (suc n) (choice Held t (suc n))) (is-taken Held t (suc n) (choice Held t (suc n)) (top-may r)) (split-buildable (suc n) (choice Held t (suc n)) (end-length us (suc n) e) r)
       (λ k q v l t′ b. held-gathered n (without v us) (without-counts us v (omega arith) n e) b (rest-others n us e r o Drop v l) g)

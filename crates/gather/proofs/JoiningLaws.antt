@@ -16,9 +16,9 @@ use Rattle.forms.specs.InnerForms.{Table, rowAt, lowRow, half, atPair, mayUse, 
 use Rattle.forms.specs.declared.Row.{Row}
 use Rattle.forms.specs.declared.Form.{Form}
 use Rattle.forms.specs.declared.Form.the-variants.{Less, Plus, LessOutside}
-use Rattle.steps.specs.InnerSteps.{formCount, formOf, keepsHolder, firstTop, canHold}
-use Rattle.steps.specs.declared.Holder.{Holder}
-use Rattle.steps.specs.declared.Holder.the-variants.{Absent, Held}
+use Rattle.splits.specs.InnerSplits.{formCount, formOf, keepsHolder, firstTop, canHold}
+use Rattle.splits.specs.declared.Holder.{Holder}
+use Rattle.splits.specs.declared.Holder.the-variants.{Absent, Held}
 use Rattle.builder.specs.InnerBuilding.{build, Buildable}
 use Rattle.builder.proofs.JoinLaws.{selectsOptional}
 use Rattle.forms.proofs.FormLaws.{fits}

@@ -24,8 +24,8 @@ use Rattle.tree.proofs.WritingLaws.{wrote-over, wrote-take}
 use Rattle.table.specs.InnerTable.{rowCount, table, rowsOf, Listed}
 use Rattle.table.proofs.TableLaws.{Tabled, table-at, rows-most}
 use Rattle.tree.specs.Pass.{entryOf}
-use Rattle.steps.specs.InnerSteps.{choose}
-use Rattle.steps.specs.declared.Holder.the-variants.{Absent}
+use Rattle.splits.specs.InnerSplits.{choose}
+use Rattle.splits.specs.declared.Holder.the-variants.{Absent}
 use Rattle.builder.specs.InnerBuilding.{postfixOptional, sizeOptional, join, single, build, mostBuilt, Buildable}
 use Rattle.builder.proofs.ReadyLaws.{less-one}
 use Rattle.builder.proofs.SizeLaws.{join-size, leaf-size, build-size}

@@ -1,4 +1,4 @@
--- `build` writes the tree of a table: one turn is a step at one variable, the parts are the recursive calls, a variable less at each.
+-- `build` writes the tree of a table: one turn is a split by one variable, the parts are the recursive calls, a variable less at each.
 use mathlib.Core.Path.{_≡_, sym, _∙_}
 use Prim.Native.Nat.{ℕ, suc, _-_, _<_}
 use native.Mathlib.Omega.{arith}
@@ -50,7 +50,7 @@ calls t = (
   operate-reads.Learnt,
 )
 
--- what is known once the step is taken, and once all is written that stands before b
+-- what is known once the split is chosen, and once all is written that stands before b
 begun : (t : ℕ) (c : build-lts.After-turn-of (calls t) (build-at t) build.Post) → let a = c .before .before .before .before .before .before .before .args in
     Begun t (a .m) (tableOf (now (a .on)) (now (a .off))) (now (a .groups)) (now (a .holder)) (now (a .out)) (a .at) (length (now (a .groups)) - 1) (c .turn-of .result)
 begun t c =

@@ -1,3 +1,0 @@
--- The laws of the definitions in specs/, for this crate and those above it.
-pub mod StepLaws
-pub mod HolderLaws
