@@ -1,11 +1,11 @@
--- Lists of numbers read two by two and four by four, as the loops do.
+-- Lists of numbers: read two by two and four by four, as the loops do, and new arrays.
 use mathlib.Core.Path.{_≡_, refl, sym, ap, ap₂, _∙_}
 use mathlib.Core.List.{List, _∷_}
 use Prim.Native.Nat.{ℕ, suc, _+_, _≤_}
 use native.Mathlib.Nat.{add-assoc}
 use native.Mathlib.Numerals.{add-one}
 use native.Mathlib.Omega.{arith}
-use lib.ListN.{length, getD, drop}
+use lib.ListN.{length, getD, drop, replicate, length-replicate}
 use lib.Seq.{drop-cons}
 
 -- two numbers of a list, and what follows them
@@ -22,3 +22,7 @@ pub four-at : (l : List ℕ) (i k : ℕ) → i + 4 ≡ k → k ≤ length l
 four-at l i k e h =
     two-at l i (i + 2) refl (omega arith)
     ∙ ap (λ (t : List ℕ). getD l i 0 ∷ getD l (i + 1) 0 ∷ t) (two-at l (i + 2) k (omega arith) h ∙ ap (λ (m : ℕ). getD l (i + 2) 0 ∷ getD l m 0 ∷ drop k l) (add-assoc i 2 1))
+
+-- a new array of zeros has its length
+pub zeros-length : (n : ℕ) → n ≤ length (replicate {A = ℕ} n 0)
+zeros-length n = omega (arith, length-replicate {A = ℕ} n 0)

@@ -21,16 +21,17 @@ use Rattle.text.proofs.LineLaws.{lines-append}
 use Rattle.sheet.specs.Reading.{mostBytes, mostSheetNodes, ReadingState, ReadingOutcome, accepted, refused, nothingRead, readLines, readWithin, reading, sheetOf}
 use Rattle.sheet.specs.declared.Sheet.{Sheet}
 use Rattle.sheet.proofs.AcceptedLaws.{accepted-sheet, answered-tree, answered-marks, number-accepted, number-refused, Accepted}
-use Rattle.key.specs.Key.{NO, text, liftRows, heldRows, instructionRows}
-use Rattle.key.specs.Lifting.{treeAfter, liftAnswers}
+use Rattle.printing.specs.Key.{NO, text, liftRows, heldRows, instructionRows}
+use Rattle.lift_lines.specs.Lifting.{treeAfter, liftAnswers}
 use Rattle.key.specs.Call.{keyBytes, KeyOf, keySays, KeyCall}
 use Rattle.key.specs.InnerKeyOf.{heldBy, codeBy, keyIn, keyFor, keyBy, keyOf, KeyBy}
-use Rattle.key.specs.Inner.{liftBytes, IsList, Markable, Asked, LiftedAll, Finished, ReadAs, WroteKey}
-use Rattle.key.specs.declared.Progress.{Progress}
+use Rattle.lift_lines.specs.Inner.{liftBytes, IsList, Asked, LiftedAll}
+use Rattle.key.specs.Inner.{Markable, Finished, ReadAs, WroteKey}
+use Rattle.lift_lines.specs.declared.Progress.{Progress}
 use Rattle.key.specs.declared.KeyAnswer.{KeyAnswer}
 use Rattle.key.specs.declared.KeyAnswer.the-variants.{Written, Short}
 use Rattle.sheet.proofs.LiftLineLaws.{lifts-few}
-use Rattle.key.proofs.LiftingLaws.{after-keeps}
+use Rattle.lift_lines.proofs.LiftingLaws.{after-keeps}
 use Rattle.key.proofs.GatheringLaws.{markable-keeps}
 use Rattle.key.proofs.DemandLaws.{demand-3}
 

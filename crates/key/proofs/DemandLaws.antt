@@ -16,12 +16,12 @@ use Rattle.coder.specs.Code.{code, codePlace, ownCode, runFirst, runCount}
 use Rattle.coder.specs.Effects.{Every, Names, stretch, ClosedRun, LoadsApart}
 use Rattle.coder.proofs.Theorems.{thirteen-suffice, run-own, closed-run, loads-apart, code-lights}
 use Rattle.gather.specs.Gathering.{CannotBeGathered}
-use Rattle.key.specs.Key.{Held, unmarked, heldRun, cannot}
+use Rattle.printing.specs.Key.{Held, unmarked, heldRun, cannot}
 use Rattle.sheet.specs.Reading.{LiftLine}
-use Rattle.key.specs.Lifting.{treeAfter, liftAnswers}
+use Rattle.lift_lines.specs.Lifting.{treeAfter, liftAnswers}
 use Rattle.key.specs.Demand.{HeldCode, HolderRun, Lights, Demand3}
 use Rattle.key.specs.Inner.{Ends}
-use Rattle.key.proofs.LiftingLaws.{after-keeps}
+use Rattle.lift_lines.proofs.LiftingLaws.{after-keeps}
 
 differ : {X : Type 0} → _≡_ {A = ℕ} 0 1 → X
 differ e = absurd (omega arith)

@@ -3,7 +3,7 @@ use mathlib.Core.Path.{_≡_, sym, ap, _∙_}
 use mathlib.Core.List.{List}
 use Prim.Native.Nat.{ℕ, _*_, _≤_}
 use native.Mathlib.Omega.{arith}
-use lib.ListN.{length, take, drop, replicate, length-append, length-replicate}
+use lib.ListN.{length, take, drop, length-append}
 use Rattle.tree.specs.Tree.{Tree, size, mostNodes}
 use Rattle.tree.proofs.WritingLaws.{take-over}
 use Rattle.tree.specs.Parse.{treeOf}
@@ -18,9 +18,10 @@ use Rattle.coder.specs.declared.Coded.{Coded}
 use Rattle.coder.specs.declared.Coded.the-variants.{Done, Refused}
 use Rattle.coder.proofs.CodingLaws.{EncodesTree, encodes-tree}
 use Rattle.coder.proofs.Theorems.{code-length, code-well-formed}
-use Rattle.key.specs.Key.{instructionRows}
-use Rattle.key.specs.Inner.{instructionBytes, IsList}
-use Rattle.key.proofs.PrintingLaws.{codeText, code-most}
+use Rattle.printing.specs.Key.{instructionRows}
+use Rattle.lift_lines.specs.Inner.{IsList}
+use Rattle.key.specs.Inner.{instructionBytes}
+use Rattle.printing.proofs.PrintingLaws.{codeText, code-most}
 
 -- the numbers that `encode` left, `count` instructions of them, are the code of the tree u
 pub record Encoded (u : Tree) (count : ℕ) (after : List ℕ) : Type 0 where
@@ -29,10 +30,6 @@ pub record Encoded (u : Tree) (count : ℕ) (after : List ℕ) : Type 0 where
   pub long : 4 * count ≤ length after
   pub text : codeText (take (4 * count) after) ≡ lines (instructionRows (code u 0))
   pub room : length (codeText (take (4 * count) after)) ≤ instructionBytes * mostNodes
-
--- a new array of zeros has its length
-pub zeros-length : (n : ℕ) → n ≤ length (replicate {A = ℕ} n 0)
-zeros-length n = omega (arith, length-replicate {A = ℕ} n 0)
 
 module _ (tree out : List ℕ) (r : Coded) (after : List ℕ) (u : Tree) (w : IsList tree u) (full : leastBuffer ≤ length out) (E : Encodes tree out r after) where
   of-tree : EncodesTree u out r after

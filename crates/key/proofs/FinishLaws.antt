@@ -27,10 +27,11 @@ use Rattle.gather.specs.declared.Gathering.{Gathering}
 use Rattle.gather.specs.declared.Gathering.the-variants.{Done, Refused}
 use Rattle.gather.proofs.GatheredLaws.{holder-of, named-tree, named-none}
 use Rattle.player.specs.Instructions.{Instruction}
-use Rattle.key.specs.Key.{Held, unmarked, cannot, HELD, heldRows, instructionRows}
+use Rattle.printing.specs.Key.{Held, unmarked, cannot, HELD, heldRows, instructionRows}
 use Rattle.key.specs.InnerKeyOf.{heldAs, heldIn, heldBy, codeBy}
-use Rattle.key.specs.Inner.{heldBytes, instructionBytes, IsList, Markable, Ends, Finished}
-use Rattle.key.proofs.PrintingLaws.{code-most, held-most, never-most}
+use Rattle.lift_lines.specs.Inner.{IsList}
+use Rattle.key.specs.Inner.{heldBytes, instructionBytes, Markable, Ends, Finished}
+use Rattle.printing.proofs.PrintingLaws.{code-most, held-most, never-most}
 use Rattle.key.proofs.GatheringLaws.{no-fault}
 
 -- the text of a tree's code has room

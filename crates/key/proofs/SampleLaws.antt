@@ -7,7 +7,7 @@ use Rattle.tree.specs.Tree.{Tree, leaf, node, union, difference, postfix, size,
 use Rattle.tree.specs.Context.{frame, left, right, plug, before, OverAbove}
 use Rattle.tree.specs.Pass.{entryOf, pass}
 use Rattle.tree.specs.Parse.{parse, treeOf, locate}
-use Rattle.lift.specs.Step.{step}
+use Rattle.step.specs.Step.{step}
 use Rattle.lift.specs.Lift.{steps, liftOf}
 use Rattle.table.specs.InnerTable.{filling, tabulate, table}
 use Rattle.gather.specs.Answer.{gatherFault, badMark}

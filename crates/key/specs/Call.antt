@@ -9,7 +9,7 @@ use Rattle.tree.specs.Tree.{Tree}
 use Rattle.tree.specs.Parse.{treeOf}
 use Rattle.tree.specs.Writing.{over}
 use Rattle.sheet.specs.Reading.{ReadingOutcome, accepted, refused, reading}
-use Rattle.key.specs.Key.{Key, refusal, answers, text}
+use Rattle.printing.specs.Key.{Key, refusal, answers, text}
 use Rattle.key.specs.Demand.{Demand3}
 use Rattle.key.specs.declared.KeyAnswer.{KeyAnswer}
 use Rattle.key.specs.declared.KeyAnswer.the-variants.{Written, Short}

@@ -15,9 +15,9 @@ use Rattle.player.specs.declared.Played.the-variants.{Done}
 use Rattle.coder.specs.Code.{code, codePlace, ownCode, runFirst, runCount}
 use Rattle.coder.specs.Effects.{Every, Names, stretch, ClosedRun, LoadsApart}
 use Rattle.gather.specs.Gathering.{Gathered, CannotBeGathered}
-use Rattle.key.specs.Key.{LiftAnswer, Held, unmarked, heldRun, cannot}
+use Rattle.printing.specs.Key.{LiftAnswer, Held, unmarked, heldRun, cannot}
 use Rattle.sheet.specs.Reading.{LiftLine}
-use Rattle.key.specs.Lifting.{treeAfter, liftAnswers}
+use Rattle.lift_lines.specs.Lifting.{treeAfter, liftAnswers}
 
 -- "its instructions are 01's code for the tree that the list leaves, gathered where there are marks": the code of a tree gathered from
 -- u. "A tree already gathered comes back unchanged. Otherwise the tree returned is free: equivalent, gathered, over groups of the

@@ -15,8 +15,8 @@ use Rattle.coder.specs.Coding.{codeOfList, runOf}
 use Rattle.coder.specs.declared.Run.{Run}
 use Rattle.gather.specs.InnerGathered.{gatheredBy, holderOf}
 use Rattle.sheet.specs.Reading.{ReadingState, ReadingOutcome, accepted, refused, reading}
-use Rattle.key.specs.Key.{Held, unmarked, heldRun, cannot, Key, refusal, answers, text}
-use Rattle.key.specs.Lifting.{treeAfter, liftAnswers}
+use Rattle.printing.specs.Key.{Held, unmarked, heldRun, cannot, Key, refusal, answers, text}
+use Rattle.lift_lines.specs.Lifting.{treeAfter, liftAnswers}
 use Rattle.key.specs.Call.{keyBytes, keySays}
 use Rattle.key.specs.declared.KeyAnswer.{KeyAnswer}
 

@@ -1,5 +1,3 @@
-pub mod Key
-pub mod Lifting
 pub mod Demand
 pub mod Call
 pub mod Samples

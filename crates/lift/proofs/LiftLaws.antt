@@ -14,12 +14,12 @@ use Rattle.tree.specs.Parse.{treeOf, locate}
 use Rattle.tree.proofs.TreeLaws.{equivalent-trans, equivalent-refl, selects-equivalent}
 use Rattle.tree.proofs.ContextLaws.{located-whole}
 use Rattle.tree.proofs.ParseLaws.{tree-of-sound, tree-of-postfix}
-use Rattle.lift.specs.Step.{Outcome, stuck, moved, step}
+use Rattle.step.specs.Step.{Outcome, stuck, moved, step}
 use Rattle.lift.specs.Lift.{Result, refused, lifted, goesOn, steps, liftAt, liftIn, liftOf}
 use Rattle.lift.specs.Answer.{liftedSays, resultSays, Lifts}
 use Rattle.lift.specs.declared.Lifted.{Lifted}
 use Rattle.lift.specs.declared.Lifted.the-variants.{Done, Refused}
-use Rattle.lift.proofs.StepLaws.{step-selects, step-over, step-over-back}
+use Rattle.step.proofs.StepLaws.{step-selects, step-over, step-over-back}
 
 -- the tree u keeps of the tree t what it selects in every rig and the groups of its leaves, and is within the limit
 pub record Keeps (t u : Tree) : Type 0 where

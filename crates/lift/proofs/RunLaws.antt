@@ -18,18 +18,18 @@ use Rattle.tree.proofs.WritingLaws.{wrote-over, take-over}
 use Rattle.moves.specs.Moves.{State, Input, stateOf, inputOf, nextState}
 use Rattle.moves.specs.InnerEntries.{stateNumber, inputNumber}
 use Rattle.moves.proofs.TableLaws.{state-range, kind-small, kind-input}
-use Rattle.lift.specs.Step.{Outcome, stuck, moved, step}
-use Rattle.lift.specs.InnerStanding.{StateIs, inputAbove, Standing}
-use Rattle.lift.specs.InnerSteps.{stepAnswer, stepBuffer, StepIs}
+use Rattle.step.specs.Step.{Outcome, stuck, moved, step}
+use Rattle.step.specs.InnerStanding.{StateIs, inputAbove, Standing}
+use Rattle.step.specs.InnerSteps.{stepAnswer, stepBuffer, StepIs}
 use Rattle.lift.specs.Lift.{Result, refused, lifted, goesOn, steps}
 use Rattle.lift.specs.Answer.{liftedSays, resultSays, liftBuffer, Lifts}
-use Rattle.lift.specs.declared.Node.{Node}
-use Rattle.lift.specs.declared.Stepped.the-variants as stepped
+use Rattle.step.specs.declared.Node.{Node}
+use Rattle.step.specs.declared.Stepped.the-variants as stepped
 use Rattle.lift.specs.declared.Lifted.{Lifted}
 use Rattle.lift.specs.declared.Lifted.the-variants.{Done, Refused}
-use Rattle.lift.proofs.StepLaws.{step-level, step-looks}
-use Rattle.lift.proofs.NextStateLaws.{next-state}
-use Rattle.lift.proofs.StepAnswerLaws.{after-long, plug-long}
+use Rattle.step.proofs.StepLaws.{step-level, step-looks}
+use Rattle.step.proofs.NextStateLaws.{next-state}
+use Rattle.step.proofs.StepAnswerLaws.{after-long, plug-long}
 
 -- ---- the state
 pub state-bounds : (c : List Frame) (s : ℕ) → StateIs c s → 1 < length c → (1 ≤ s) × (s ≤ 9)

@@ -16,13 +16,13 @@ use Rattle.tree.specs.InnerWriting.{Wrote}
 use Rattle.tree.proofs.ParseLaws.{IsTree, tree-length, no-tree-of}
 use Rattle.tree.proofs.PartLaws.{part-length, part-of-entry}
 use Rattle.tree.proofs.WritingLaws.{wrote-over, take-over}
-use Rattle.lift.specs.InnerStanding.{StateIs, Standing}
+use Rattle.step.specs.InnerStanding.{StateIs, Standing}
 use Rattle.lift.specs.Lift.{refused, steps, liftAt, liftIn, liftOf, Result}
 use Rattle.lift.specs.Answer.{resultSays, liftBuffer, Lifts}
 use Rattle.lift.specs.declared.Lifted.{Lifted}
 use Rattle.lift.specs.declared.Lifted.the-variants.{Refused}
 use Rattle.lift.proofs.LevelLaws.{part-level}
-use Rattle.lift.proofs.StepAnswerLaws.{after-long}
+use Rattle.step.proofs.StepAnswerLaws.{after-long}
 
 module _ (room : ℕ) (l : List ℕ) (p k : ℕ) where
   pub says-11 : room < mostNodes → liftOf room l p k ≡ refused 11

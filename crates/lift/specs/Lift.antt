@@ -8,7 +8,7 @@ use lib.ListN.{length}
 use Rattle.tree.specs.Tree.{Tree, size, mostNodes}
 use Rattle.tree.specs.Context.{Frame, plug, position, Place}
 use Rattle.tree.specs.Parse.{treeOf, locate}
-use Rattle.lift.specs.Step.{Outcome, stuck, moved, step}
+use Rattle.step.specs.Step.{Outcome, stuck, moved, step}
 
 -- a lift is refused with its number, or gives the new tree, A's new position and the looks
 pub data Result : Type 0 where

@@ -1,7 +1,7 @@
 use mathlib.Core.Path.{sym}
 use native.Mathlib.Omega.{arith}
 use lib.Seq.{length-take-le}
-use Rattle.key.proofs.EncodingLaws.{zeros-length}
+use Rattle.common.proofs.ListLaws.{zeros-length}
 use Rattle.key.proofs.AnswerLaws.{is-read, read-copied, read-marks, read-answered, read-most}
 use borrow.Author.Needs.{needs}
 use Rattle.key.proofs.answer_sheet.Statement.{statement}

@@ -1,5 +1,5 @@
 use native.Mathlib.Omega.{arith}
-use Rattle.key.proofs.PrintingLaws.{no-most}
+use Rattle.printing.proofs.PrintingLaws.{no-most}
 use Rattle.key.proofs.AnswerLaws.{call-short, accepted-read, call-written, call-refused}
 use borrow.Author.Needs.{needs}
 use Rattle.key.proofs.key.Statement.{statement}

@@ -6,10 +6,11 @@ use lib.ListN.{length, replicate}
 use lib.Seq.{length-take-le}
 use Rattle.tree.specs.Tree.{Tree}
 use Rattle.text.specs.Line.{line}
-use Rattle.key.specs.Key.{HELD}
-use Rattle.key.specs.Inner.{heldBytes, IsList, Markable}
-use Rattle.key.proofs.PrintingLaws.{never-most}
-use Rattle.key.proofs.EncodingLaws.{zeros-length}
+use Rattle.printing.specs.Key.{HELD}
+use Rattle.lift_lines.specs.Inner.{IsList}
+use Rattle.key.specs.Inner.{heldBytes, Markable}
+use Rattle.printing.proofs.PrintingLaws.{never-most}
+use Rattle.common.proofs.ListLaws.{zeros-length}
 use Rattle.key.proofs.FinishLaws.{NamedTo, gathered-never, gathered-done, gathered-list, gathered-long, run-line, finished-never, finished-held}
 use borrow.Author.Needs.{needs}
 use Rattle.key.proofs.put_held.Statement.{statement}

@@ -6,7 +6,8 @@ use borrow.Author.Needs.{needs}
 use lib.ListN.{replicate}
 use lib.Seq.{length-take-le}
 use Rattle.tree.proofs.WritingLaws.{wrote-as}
-use Rattle.key.proofs.EncodingLaws.{zeros-length, encoded, encoded-not}
+use Rattle.common.proofs.ListLaws.{zeros-length}
+use Rattle.key.proofs.EncodingLaws.{encoded, encoded-not}
 use Rattle.key.proofs.put_tree_code.Statement.{statement}
 use Rattle.key.proofs.put_tree_code.Tie as tie
 

@@ -8,12 +8,12 @@ use lib.Seq.{length-take-le}
 use Rattle.tree.specs.Tree.{Tree}
 use Rattle.tree.specs.Context.{Frame}
 use Rattle.tree.proofs.TreeLaws.{size-positive}
-use Rattle.lift.specs.InnerStanding.{Standing}
-use Rattle.lift.specs.InnerSteps.{StepIs}
+use Rattle.step.specs.InnerStanding.{Standing}
+use Rattle.step.specs.InnerSteps.{StepIs}
 use Rattle.lift.specs.Lift.{Result}
 use Rattle.lift.specs.Answer.{Lifts}
-use Rattle.lift.specs.declared.Stepped.{Stepped}
-use Rattle.lift.specs.declared.Stepped.the-variants as stepped
+use Rattle.step.specs.declared.Stepped.{Stepped}
+use Rattle.step.specs.declared.Stepped.the-variants as stepped
 use Rattle.lift.proofs.RunLaws.{state-bounds, stuck-is, long-is, next-stands, next-small, next-looks, next-input, goes-on, stops, grows-too-long, ends}
 use Prim.Native.Nat.{ℕ, _<_}
 use borrow.Fn.Kinds.{In}
@@ -22,7 +22,7 @@ use Rattle.lift.proofs.run.Reads as run
 use Rattle.lift.proofs.run.Kinds as run-kinds
 use Rattle.lift.proofs.+run.Lts-run as run-lts
 use Rattle.moves.proofs.next_state.Reads as next-state-reads
-use Rattle.lift.proofs.step.Reads as step-reads
+use Rattle.step.proofs.step.Reads as step-reads
 use Rattle.tree.proofs.copy.Reads as copy-reads
 use Rattle.lift.proofs.+run.{statement}
 use Rattle.lift.proofs.+run.Tie.{close}

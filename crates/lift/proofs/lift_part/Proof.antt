@@ -8,7 +8,7 @@ use Rattle.tree.specs.Tree.{Tree}
 use Rattle.tree.specs.Context.{Frame}
 use Rattle.tree.specs.InnerPart.{Part}
 use Rattle.tree.proofs.PartLaws.{part-length}
-use Rattle.lift.specs.InnerStanding.{Standing}
+use Rattle.step.specs.InnerStanding.{Standing}
 use Rattle.lift.proofs.WholeLaws.{stands-first, same-level, level-within}
 use borrow.Author.Needs.{needs}
 use Rattle.lift.proofs.lift_part.Statement.{statement}

@@ -1,0 +1,43 @@
+-- What a list of lifts keeps of the tree as written: what it selects, the groups of its leaves, and the limit.
+use mathlib.Core.Path.{_≡_, refl, sym, subst, _∙_}
+use mathlib.Core.List.{List, [], _∷_}
+use mathlib.Core.Option.{some}
+use Prim.Native.Nat.{_≤_}
+use native.Mathlib.Omega.{arith}
+use Rattle.tree.specs.Tree.{Tree, postfix, size, mostNodes}
+use Rattle.tree.proofs.TreeLaws.{equivalent-refl, equivalent-trans}
+use Rattle.tree.proofs.ParseLaws.{tree-of-postfix}
+use Rattle.lift.specs.Lift.{Result, refused, lifted}
+use Rattle.lift.proofs.LiftLaws.{Keeps, LiftKeeps, lift-keeps}
+use Rattle.lift.proofs.ResultLaws.{lift-of-tree}
+use Rattle.sheet.specs.Reading.{LiftLine}
+use Rattle.lift_lines.specs.Lifting.{lifting, treeLeft, treeAfter}
+
+pub keeps-refl : (t : Tree) → size t ≤ mostNodes → Keeps t t
+keeps-refl t h = record { equivalent = equivalent-refl t; over = λ m o. o; over-back = λ m o. o; most = h }
+
+pub keeps-trans : {t u w : Tree} → Keeps t u → Keeps u w → Keeps t w
+keeps-trans f g = record {
+  equivalent = equivalent-trans (g .equivalent) (f .equivalent);
+  over = λ m o. g .over m (f .over m o);
+  over-back = λ m o. f .over-back m (g .over-back m o);
+  most = g .most;
+}
+
+-- one lift, done or refused
+pub left-keeps : (t : Tree) (l : LiftLine) → size t ≤ mostNodes → Keeps t (treeLeft t (lifting t l))
+left-keeps t l h = go (lifting t l) refl
+  where
+    go : (x : Result) → lifting t l ≡ x → Keeps t (treeLeft t x)
+    go (refused n) e = keeps-refl t h
+    go (lifted u p n) e =
+        let K : LiftKeeps (postfix t) u = lift-keeps mostNodes (postfix t) (l .position) (l .levels) u p n (lift-of-tree mostNodes t (l .position) (l .levels) (omega arith) h ∙ e) in
+        let q : some (K .tree) ≡ some t = sym (K .given) ∙ tree-of-postfix t h in
+        let s : K .tree ≡ t = cc in
+        subst (λ (x : Tree). Keeps x u) s (K .keeps)
+
+-- the whole list
+pub after-keeps : (t : Tree) (ls : List LiftLine) → size t ≤ mostNodes → Keeps t (treeAfter t ls)
+unfolding treeAfter
+after-keeps t [] h = keeps-refl t h
+after-keeps t (l ∷ ls) h = let K = left-keeps t l h in keeps-trans K (after-keeps (treeLeft t (lifting t l)) ls (K .most))

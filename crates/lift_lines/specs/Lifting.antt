@@ -1,0 +1,31 @@
+-- Document 01, "The key program": the lifts of a sheet, in order.
+use mathlib.Core.List.{List, [], _∷_}
+use mathlib.Core.Option.{some}
+use Rattle.tree.specs.Tree.{Tree}
+use Rattle.sheet.specs.Reading.{LiftLine}
+use Rattle.lift.specs.Lift.{Result, refused, lifted, liftIn}
+use Rattle.printing.specs.Key.{LiftAnswer}
+
+-- a lift in a tree, by 01's definition
+abbrev pub lifting : Tree → LiftLine → Result
+lifting t l = liftIn (some t) (l .position) (l .levels)
+
+-- "A refused lift leaves the tree and the next goes on."
+abbrev pub treeLeft : Tree → Result → Tree
+treeLeft t (refused number) = t
+treeLeft t (lifted u position looks) = u
+
+-- "`LIFT` number position looks (number 0 if done; if refused, the line's own position and 0)"
+abbrev pub liftAnswer : LiftLine → Result → LiftAnswer
+liftAnswer l (refused number) = record { number = number; position = l .position; looks = 0 }
+liftAnswer l (lifted u position looks) = record { number = 0; position = position; looks = looks }
+
+-- "The first lift gets the tree as read, each later one the tree that the lift before it left": the tree that the list leaves,
+unfoldable pub treeAfter : Tree → List LiftLine → Tree
+treeAfter t [] = t
+treeAfter t (l ∷ ls) = treeAfter (treeLeft t (lifting t l)) ls
+
+-- and the answers, in order
+unfoldable pub liftAnswers : Tree → List LiftLine → List LiftAnswer
+liftAnswers t [] = []
+liftAnswers t (l ∷ ls) = liftAnswer l (lifting t l) ∷ liftAnswers (treeLeft t (lifting t l)) ls

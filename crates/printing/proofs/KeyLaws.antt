@@ -1,0 +1,103 @@
+-- From a key's bytes its lifts, its HELD line and its instructions can be read back uniquely: the lines can (text's law),
+-- and from the lines `decode` gives the key back.
+use mathlib.Core.Path.{_≡_, refl, sym, ap, _∙_}
+use mathlib.Core.Bool.{cond}
+use mathlib.Core.List.{List, [], _∷_, _++_}
+use Prim.Native.Nat.{ℕ}
+use lib.Dec.{eqb}
+use lib.ListN.{getD}
+use Rattle.tree.specs.Tree.{isIn}
+use Rattle.text.specs.Line.{Row}
+use Rattle.text.proofs.LineLaws.{AllPlain, lines-unique}
+use Rattle.player.specs.Instructions.{Instruction, load, add, cut}
+use Rattle.printing.specs.Key.{LiftAnswer, Held, unmarked, heldRun, cannot, Key, refusal, answers, liftRows, heldRows, instructionRows, rowsOf, text}
+
+-- ---- no word of a key has a tab or an LF
+instruction-plain : (is : List Instruction) → AllPlain (instructionRows is)
+unfolding AllPlain instructionRows isIn
+instruction-plain [] = tt
+instruction-plain (load a b ∷ is) = (record { noTab = refl; noLineFeed = refl }, instruction-plain is)
+instruction-plain (add a b c ∷ is) = (record { noTab = refl; noLineFeed = refl }, instruction-plain is)
+instruction-plain (cut a b c ∷ is) = (record { noTab = refl; noLineFeed = refl }, instruction-plain is)
+
+held-plain : (h : Held) (is : List Instruction) → AllPlain (heldRows h ++ instructionRows is)
+unfolding AllPlain isIn
+held-plain unmarked is = instruction-plain is
+held-plain (heldRun f c) is = (record { noTab = refl; noLineFeed = refl }, instruction-plain is)
+held-plain cannot is = (record { noTab = refl; noLineFeed = refl }, instruction-plain is)
+
+lift-plain : (ls : List LiftAnswer) (h : Held) (is : List Instruction) → AllPlain (liftRows ls ++ (heldRows h ++ instructionRows is))
+unfolding AllPlain liftRows isIn
+lift-plain [] h is = held-plain h is
+lift-plain (a ∷ ls) h is = (record { noTab = refl; noLineFeed = refl }, lift-plain ls h is)
+
+plain : (k : Key) → AllPlain (rowsOf k)
+unfolding AllPlain isIn
+plain (refusal n l) = (record { noTab = refl; noLineFeed = refl }, tt)
+plain (answers ls h is) = lift-plain ls h is
+
+-- ---- reading the lines back
+abbrev letter : Row → ℕ → ℕ
+letter r i = getD (r .word) i 0
+
+abbrev field : Row → ℕ → ℕ
+field r i = getD (r .numbers) i 0
+
+-- LOAD by its O, ADD by its A
+abbrev instructionOf : Row → Instruction
+instructionOf r =
+    cond (eqb (letter r 1) 79) (load (field r 0) (field r 1))
+    (cond (eqb (letter r 0) 65) (add (field r 0) (field r 1) (field r 2)) (cut (field r 0) (field r 1) (field r 2)))
+
+unfoldable instructionsOf : List Row → List Instruction
+instructionsOf [] = []
+instructionsOf (r ∷ rs) = instructionOf r ∷ instructionsOf rs
+
+abbrev heldOf : Row → Held
+heldOf r = cond (eqb (field r 0) 19) cannot (heldRun (field r 1) (field r 2))
+
+abbrev liftOf : Row → LiftAnswer
+liftOf r = record { number = field r 0; position = field r 1; looks = field r 2 }
+
+abbrev withLift : LiftAnswer → Key → Key
+withLift a (refusal n l) = refusal n l
+withLift a (answers ls h is) = answers (a ∷ ls) h is
+
+-- LIFT by its I, HELD by its E, NO by its N
+unfoldable decode : List Row → Key
+decode [] = answers [] unmarked []
+decode (r ∷ rs) =
+    cond (eqb (letter r 1) 73) (withLift (liftOf r) (decode rs))
+    (cond (eqb (letter r 1) 69) (answers [] (heldOf r) (instructionsOf rs))
+    (cond (eqb (letter r 0) 78) (refusal (field r 0) (field r 1)) (answers [] unmarked (instructionOf r ∷ instructionsOf rs))))
+
+instructions-back : (is : List Instruction) → instructionsOf (instructionRows is) ≡ is
+unfolding instructionRows instructionsOf
+instructions-back [] = refl
+instructions-back (load a b ∷ is) = rw (instructions-back is)
+instructions-back (add a b c ∷ is) = rw (instructions-back is)
+instructions-back (cut a b c ∷ is) = rw (instructions-back is)
+
+unmarked-back : (is : List Instruction) → decode (instructionRows is) ≡ answers [] unmarked is
+unfolding instructionRows decode
+unmarked-back [] = refl
+unmarked-back (load a b ∷ is) = rw (instructions-back is)
+unmarked-back (add a b c ∷ is) = rw (instructions-back is)
+unmarked-back (cut a b c ∷ is) = rw (instructions-back is)
+
+lifts-back : (ls : List LiftAnswer) (h : Held) (is : List Instruction) → decode (liftRows ls ++ (heldRows h ++ instructionRows is)) ≡ answers ls h is
+unfolding liftRows decode
+lifts-back [] unmarked is = unmarked-back is
+lifts-back [] (heldRun f c) is = rw (instructions-back is)
+lifts-back [] cannot is = rw (instructions-back is)
+lifts-back (a ∷ ls) h is = ap (withLift a) (lifts-back ls h is)
+
+rows-back : (k : Key) → decode (rowsOf k) ≡ k
+unfolding decode
+rows-back (refusal n l) = refl
+rows-back (answers ls h is) = lifts-back ls h is
+
+-- bytes are the text of one key at most
+pub text-unique : (k j : Key) → text k ≡ text j → k ≡ j
+unfolding text
+text-unique k j e = sym (rows-back k) ∙ ap decode (lines-unique (rowsOf k) (rowsOf j) (plain k) (plain j) e) ∙ rows-back j

@@ -1,0 +1,125 @@
+-- The text of instructions, line by line, and how long lines are.
+use mathlib.Core.Path.{_≡_, refl, sym, ap, _∙_}
+use mathlib.Core.List.{List, [], _∷_, _++_, append-assoc, append-nil}
+use Prim.Native.Nat.{ℕ, _+_, _-_, _*_, _^_, _≤_, _<_}
+use native.Mathlib.Omega.{arith}
+use native.Mathlib.Nat.{add-assoc}
+use borrow.Author.Tests.{eq-eqb, ne-eqb}
+use lib.ListN.{length, getD, drop, length-append}
+use Rattle.tree.specs.InnerWriting.{Wrote}
+use Rattle.tree.proofs.WritingLaws.{wrote-nothing, wrote-then, wrote-as}
+use Rattle.text.specs.Decimal.{digits}
+use Rattle.text.specs.Line.{line, lines}
+use Rattle.text.specs.Inner.{field, fieldsAfter}
+use Rattle.text.proofs.DecimalLaws.{digits-length}
+use Rattle.text.proofs.LineLaws.{line-length}
+use Rattle.player.specs.Instructions.{Instruction, load, add, cut, instruction, instructions}
+use Rattle.player.proofs.InstructionLaws.{WellFormed, AllWellFormed}
+use Rattle.common.proofs.ListLaws.{two-at}
+use Rattle.printing.specs.Key.{NO, LIFT, HELD, LOAD, ADD, CUT, instructionRow, instructionRows}
+use Rattle.printing.specs.Inner.{rowText}
+
+-- ---- a loop that writes a text piece by piece: so far the front of `whole` is written, and `rest` is what is left of it
+pub record WroteUpTo (whole rest out : List ℕ) (at : ℕ) (out′ : List ℕ) (next : ℕ) : Type 0 where
+  pub front : List ℕ
+  pub wrote : Wrote out at out′ next front
+  pub is : front ++ rest ≡ whole
+
+pub up-to-start : (whole out : List ℕ) (at : ℕ) → WroteUpTo whole whole out at out at
+up-to-start whole out at = record { front = []; wrote = wrote-nothing out at; is = refl }
+
+pub up-to-next : {whole out out₁ out₂ x rest : List ℕ} {at next₁ next₂ : ℕ} (rest₁ : List ℕ) → rest₁ ≡ x ++ rest → WroteUpTo whole rest₁ out at out₁ next₁ → Wrote out₁ next₁ out₂ next₂ x
+    → WroteUpTo whole rest out at out₂ next₂
+up-to-next {whole} {out} {out₁} {out₂} {x} {rest} rest₁ e w v = record {
+  front = w .front ++ x;
+  wrote = wrote-then (w .wrote) v;
+  is = append-assoc (w .front) x rest ∙ ap (λ (l : List ℕ). w .front ++ l) (sym e) ∙ w .is;
+}
+
+pub up-to-room : {whole out out₁ : List ℕ} {at next : ℕ} (rest₁ x rest : List ℕ) → rest₁ ≡ x ++ rest → WroteUpTo whole rest₁ out at out₁ next → at + length whole ≤ length out
+    → next + length x ≤ length out₁
+up-to-room {whole} rest₁ x rest e w h =
+    omega (arith, w .wrote .ends, w .wrote .same, ap length (w .is), length-append (w .front) rest₁, ap length e, length-append x rest)
+
+pub up-to-end : {whole out out₁ : List ℕ} {at next : ℕ} (rest : List ℕ) → rest ≡ [] → WroteUpTo whole rest out at out₁ next → Wrote out at out₁ next whole
+up-to-end rest e w = wrote-as (w .wrote) (sym (append-nil (w .front)) ∙ ap (λ (l : List ℕ). w .front ++ l) (sym e) ∙ w .is)
+
+-- ---- the line of an instruction, by its kind
+module _ (kind target s t : ℕ) where
+  pub load-text : kind ≡ 1 → rowText (instructionRow (instruction kind target s t)) ≡ line LOAD (target ∷ s ∷ [])
+  load-text e = rw (eq-eqb kind 1 e)
+
+  pub add-text : kind ≡ 2 → rowText (instructionRow (instruction kind target s t)) ≡ line ADD (target ∷ s ∷ t ∷ [])
+  add-text e = rw e
+
+  pub cut-text : (kind ≡ 1 → ⊥) → (kind ≡ 2 → ⊥) → rowText (instructionRow (instruction kind target s t)) ≡ line CUT (target ∷ s ∷ t ∷ [])
+  cut-text n m = rw (ne-eqb kind 1 n, ne-eqb kind 2 m)
+
+-- ---- one instruction more of a code
+abbrev pub codeText : List ℕ → List ℕ
+codeText code = lines (instructionRows (instructions code))
+
+pub code-text-next : (code : List ℕ) (i : ℕ) → 4 ≤ length code - i
+    → codeText (drop i code) ≡ rowText (instructionRow (instruction (getD code i 0) (getD code (i + 1) 0) (getD code (i + 2) 0) (getD code (i + 3) 0))) ++ codeText (drop (i + 4) code)
+unfolding lines instructionRows instructions
+code-text-next code i h =
+    let f : drop i code ≡ getD code i 0 ∷ getD code (i + 1) 0 ∷ getD code (i + 2) 0 ∷ getD code (i + 2 + 1) 0 ∷ drop (i + 4) code =
+    two-at code i (i + 2) refl (omega arith) ∙ ap (λ (l : List ℕ). getD code i 0 ∷ getD code (i + 1) 0 ∷ l) (two-at code (i + 2) (i + 4) (omega arith) (omega arith)) in
+    rw (f, add-assoc i 2 1)
+
+pub code-room : {out out₁ : List ℕ} {at next : ℕ} (code : List ℕ) (i : ℕ) → 4 ≤ length code - i → WroteUpTo (codeText code) (codeText (drop i code)) out at out₁ next
+    → at + length (codeText code) ≤ length out
+    → next + length (rowText (instructionRow (instruction (getD code i 0) (getD code (i + 1) 0) (getD code (i + 2) 0) (getD code (i + 3) 0)))) ≤ length out₁
+code-room code i h w room =
+    up-to-room (codeText (drop i code)) (rowText (instructionRow (instruction (getD code i 0) (getD code (i + 1) 0) (getD code (i + 2) 0) (getD code (i + 3) 0)))) (codeText (drop (i + 4) code))
+    (code-text-next code i h) w room
+
+pub code-text-end : (code : List ℕ) → length code < 4 → codeText code ≡ []
+unfolding lines instructionRows instructions
+code-text-end [] h = refl
+code-text-end (a ∷ []) h = refl
+code-text-end (a ∷ b ∷ []) h = refl
+code-text-end (a ∷ b ∷ c ∷ []) h = refl
+code-text-end (a ∷ b ∷ c ∷ d ∷ l) h = absurd (omega arith)
+
+-- ---- how long lines are at most
+line-two : (word : List ℕ) (a b : ℕ) → length (line word (a ∷ b ∷ [])) ≡ length word + length (digits a) + length (digits b) + 3
+unfolding fieldsAfter
+line-two word a b = omega (arith, line-length word (a ∷ b ∷ []), length-append (field a) (field b ++ []), length-append (field b) [])
+
+line-three : (word : List ℕ) (a b c : ℕ) → length (line word (a ∷ b ∷ c ∷ [])) ≡ length word + length (digits a) + length (digits b) + length (digits c) + 4
+unfolding fieldsAfter
+line-three word a b c =
+    omega (arith, line-length word (a ∷ b ∷ c ∷ []), length-append (field a) (field b ++ (field c ++ [])), length-append (field b) (field c ++ []), length-append (field c) [])
+
+-- an instruction that the player takes: at most 13 bytes
+pub instruction-most : (i : Instruction) → WellFormed i → length (rowText (instructionRow i)) ≤ 13
+instruction-most (load target group) w =
+    omega (arith, line-two LOAD target group, digits-length 1 target (omega (arith, w .0)), digits-length 3 group (omega (arith, w .2)))
+instruction-most (add target s t) w =
+    omega (arith, line-three ADD target s t, digits-length 1 target (omega (arith, w .0)), digits-length 1 s (omega (arith, w .1)), digits-length 1 t (omega (arith, w .2)))
+instruction-most (cut target s t) w =
+    omega (arith, line-three CUT target s t, digits-length 1 target (omega (arith, w .0)), digits-length 1 s (omega (arith, w .1)), digits-length 1 t (omega (arith, w .2)))
+
+pub code-most : (is : List Instruction) → AllWellFormed is → length (lines (instructionRows is)) ≤ 13 * length is
+unfolding lines instructionRows AllWellFormed
+code-most [] w = omega arith
+code-most (i ∷ is) w = omega (arith, instruction-most i (w .0), code-most is (w .1), length-append (rowText (instructionRow i)) (lines (instructionRows is)))
+
+-- a LIFT line: at most 20
+pub lift-most : (number position looks : ℕ) → number < 100 → position < 10000 → looks < 1000000 → length (line LIFT (number ∷ position ∷ looks ∷ [])) ≤ 20
+lift-most number position looks n p k =
+    omega (arith, line-three LIFT number position looks, digits-length 1 number (omega arith), digits-length 3 position (omega arith), digits-length 5 looks (omega arith))
+
+-- a HELD line: at most 17
+pub held-most : (first count : ℕ) → first < 10000 → count < 10000 → length (line HELD (0 ∷ first ∷ count ∷ [])) ≤ 17
+held-most first count f c =
+    omega (arith, line-three HELD 0 first count, digits-length 0 0 (omega arith), digits-length 3 first (omega arith), digits-length 3 count (omega arith))
+
+pub never-most : length (line HELD (19 ∷ [])) ≤ 17
+unfolding fieldsAfter
+never-most = omega (arith, line-length HELD (19 ∷ []), length-append (field 19) [], digits-length 1 19 (omega arith))
+
+-- a NO line, of a byte and a machine number: at most 28
+pub no-most : (number at : ℕ) → number < 1000 → at < 10 ^ 20 → length (line NO (number ∷ at ∷ [])) ≤ 28
+no-most number at n l = omega (arith, line-two NO number at, digits-length 2 number (omega arith), digits-length 19 at l)

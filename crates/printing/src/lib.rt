@@ -1,0 +1,39 @@
+// What a key says, as lines of bytes: the lines of a code's instructions.
+ghost use Prim.Native.Nat.{_+_, _≤_};
+ghost use lib.ListN.{length};
+ghost use Rattle.tree.specs.InnerWriting.{Wrote};
+ghost use Rattle.text.specs.Line.{lines};
+ghost use Rattle.player.specs.Instructions.{instruction, instructions};
+ghost use Rattle.printing.specs.Key.{instructionRow, instructionRows};
+ghost use Rattle.printing.specs.Inner.{rowText};
+
+// Writes the line of an instruction, LOAD's last number left out.
+fn put_instruction(kind: u16, target: u16, s: u16, t: u16, out: &mut [u8], at: usize) -> usize
+    requires { ⌜ at + length (rowText (instructionRow (instruction kind target s t))) ≤ length (now out) ⌝ }
+    ensures { λ r. ⌜ Wrote (now (out .entry)) at (now (out .exit)) r (rowText (instructionRow (instruction kind target s t))) ⌝ }
+{
+    let a = target as usize;
+    let b = s as usize;
+    let c = t as usize;
+    if kind == player::LOAD {
+        return text::put_line(b"LOAD", &[a, b], out, at);
+    }
+    if kind == player::ADD {
+        return text::put_line(b"ADD", &[a, b, c], out, at);
+    }
+    text::put_line(b"CUT", &[a, b, c], out, at)
+}
+
+// Writes the lines of a code's instructions, four numbers each.
+pub fn put_code(code: &[u16], out: &mut [u8], at: usize) -> usize
+    requires { ⌜ at + length (lines (instructionRows (instructions (now code)))) ≤ length (now out) ⌝ }
+    ensures { λ r. ⌜ Wrote (now (out .entry)) at (now (out .exit)) r (lines (instructionRows (instructions (now (code .entry))))) ⌝ }
+{
+    let mut i = 0;
+    let mut next = at;
+    while 4 <= code.len() - i {
+        next = put_instruction(code[i], code[i + 1], code[i + 2], code[i + 3], out, next);
+        i += 4;
+    }
+    next
+}

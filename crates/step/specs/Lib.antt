@@ -1,0 +1,3 @@
+pub mod Step
+pub mod InnerStanding
+pub mod InnerSteps

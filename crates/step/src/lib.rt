@@ -1,0 +1,213 @@
+// One step of a lift by Table 9: what the frames above a node make of it, and the step carried out.
+ghost use mathlib.Core.Path.{_≡_};
+ghost use mathlib.Core.List.{List};
+ghost use Prim.Native.Nat.{_≤_, _<_};
+ghost use lib.ListN.{length};
+ghost use Rattle.tree.specs.Tree.{Operator, Tree, mostNodes};
+ghost use Rattle.tree.specs.Context.{Side, Frame};
+ghost use Rattle.tree.specs.InnerPart.{Part, Located, kindOf, aboveOf};
+ghost use Rattle.moves.specs.Moves.{stateOf};
+ghost use Rattle.moves.specs.InnerEntries.{stateNumber};
+ghost use Rattle.step.specs.InnerStanding.{StateIs, Standing, Stands};
+ghost use Rattle.step.specs.InnerSteps.{framedAs, Planned, StepIs, oneLook, passedAnswer, Small};
+use moves::Replacement;
+use tree::Above;
+
+// The state by A's kind and its parent's: A U B, A - B, B U A, B - A, and the same with the parent's part for A and C for B.
+const STATES: [[usize; 4]; 4] = [[1, 5, 1, 2], [6, 3, 6, 8], [1, 5, 1, 2], [7, 4, 7, 9]];
+
+// States 1 to 4 replace T alone; state 9 passes its step on, but not under input b.
+const LAST_ALONE: usize = 4;
+
+const PASSING: usize = 9;
+
+const INPUT_B: usize = 1;
+
+// A node of a tree's list: its part's entries, from `from` up to, not including, `to`; its level; and its state, where it has a grandparent.
+pub struct Node {
+    pub from: usize,
+    pub to: usize,
+    pub level: usize,
+    pub state: usize,
+}
+
+// A stretch of a list: the entries from `from` up to, not including, `to`.
+pub struct Stretch {
+    pub from: usize,
+    pub to: usize,
+}
+
+// The innermost frame of a part: none, or its kind (`tree::Above`), the sibling's stretch and the parent's.
+pub enum Framed {
+    Root,
+    Under(u8, Stretch, Stretch),
+}
+
+// What a step does: nothing; the step of the parent; or it replaces a stretch by a move entry. `Up` has the parent and the input, `Here`
+// the input, the stretches of B, C and D and the one replaced.
+pub enum Plan {
+    Stuck,
+    Up(Node, usize),
+    Here(usize, Stretch, Stretch, Stretch, Stretch),
+}
+
+// A step's answer: there is none (15); its result is too long (16); or how many nodes the new tree has, where A begins, the looks and the input.
+pub enum Stepped {
+    Stuck,
+    TooLong,
+    Done {
+        nodes: usize,
+        from: usize,
+        looks: usize,
+        input: usize,
+    },
+}
+
+// The state of a part, by its own kind and its parent's.
+fn state_of(own: u8, parent: u8) -> usize
+    requires { ⌜ (own < 4) × (parent < 4) ⌝ }
+    ensures { λ r. ⌜ ((s : Side) (o : Operator) (t : Side) (q : Operator) → own ≡ kindOf s o → parent ≡ kindOf t q → r ≡ stateNumber (stateOf s o t q)) ⌝ }
+{
+    let row = STATES[own as usize];
+    row[parent as usize]
+}
+
+// The innermost frame of a part.
+fn frame_above(list: &[u16], part: Stretch) -> Framed
+    requires { ⌜ Located (now list) (part .from) (part .to) ⌝ }
+    ensures { λ r. ⌜ ((a : Tree) (c : List Frame) → Part (now (list .entry)) (part .from) (part .to) a c → r ≡ framedAs (aboveOf (part .from) (part .to) c)) ⌝ }
+{
+    match tree::above_part(list, part.from, part.to) {
+        Above::Root => Framed::Root,
+        Above::Under {
+            kind,
+            sibling_from,
+            sibling_to,
+            parent_from,
+            parent_to,
+        } => {
+            let sibling = Stretch {
+                from: sibling_from,
+                to: sibling_to,
+            };
+            let parent = Stretch {
+                from: parent_from,
+                to: parent_to,
+            };
+            Framed::Under(kind, sibling, parent)
+        }
+    }
+}
+
+// What the step of a node is. The frames above it give B, C with T, and D with the input and the stretch of T with D.
+fn plan_step(list: &[u16], node: Node) -> Plan
+    requires { ⌜ Stands (now list) node ⌝ }
+    ensures { λ r. ⌜ ((a : Tree) (c : List Frame) → Standing (now (list .entry)) node a c → Planned (now (list .entry)) node a c r) ⌝ }
+{
+    let part = Stretch {
+        from: node.from,
+        to: node.to,
+    };
+    let Framed::Under(_, b, parent) = frame_above(list, part) else {
+        return Plan::Stuck;
+    };
+    let Framed::Under(parent_kind, c, t) = frame_above(list, parent) else {
+        return Plan::Stuck;
+    };
+    let Framed::Under(kind, d, whole) = frame_above(list, t) else {
+        if node.state <= LAST_ALONE {
+            return Plan::Here(0, b, c, c, t);
+        }
+        return Plan::Stuck;
+    };
+    let input = kind as usize;
+    if node.state <= LAST_ALONE {
+        return Plan::Here(input, b, c, d, t);
+    }
+    if (node.state == PASSING) & (input != INPUT_B) {
+        let state = state_of(parent_kind, kind);
+        let up = Node {
+            from: parent.from,
+            to: parent.to,
+            level: node.level - 1,
+            state,
+        };
+        return Plan::Up(up, input);
+    }
+    Plan::Here(input, b, c, d, whole)
+}
+
+// The answer of a step that replaced a stretch: one look.
+fn one_look(made: Replacement, input: usize) -> Stepped
+    ensures { λ r. ⌜ r ≡ oneLook made input ⌝ }
+{
+    match made {
+        Replacement::TooLong => Stepped::TooLong,
+        Replacement::Done { nodes, from } => Stepped::Done {
+            nodes,
+            from,
+            looks: 1,
+            input,
+        },
+    }
+}
+
+// The answer of a step that is passed on to the parent: A begins as much later as it did in its parent's part, and looks are one more.
+fn passed_on(up: Stepped, later: usize, input: usize) -> Stepped
+    requires { ⌜ Small up later ⌝ }
+    ensures { λ r. ⌜ r ≡ passedAnswer up later input ⌝ }
+{
+    match up {
+        Stepped::Stuck => Stepped::Stuck,
+        Stepped::TooLong => Stepped::TooLong,
+        Stepped::Done {
+            nodes,
+            from,
+            looks,
+            input: _,
+        } => Stepped::Done {
+            nodes,
+            from: from + later,
+            looks: looks + 1,
+            input,
+        },
+    }
+}
+
+// One step of a lift, written to `out`. Where it is passed on it calls itself on the parent, whose level is one less.
+pub fn step(list: &[u16], node: Node, out: &mut [u16]) -> Stepped
+    requires { ⌜ Stands (now list) node ⌝ }
+    requires { ⌜ (length (now list) ≤ mostNodes) × (mostNodes ≤ length (now out)) ⌝ }
+    ensures { λ r. ⌜ ((a : Tree) (c : List Frame) → Standing (now (list .entry)) node a c → StepIs a c (now (out .entry)) r (now (out .exit))) ⌝ }
+{
+    match plan_step(list, node) {
+        Plan::Stuck => Stepped::Stuck,
+        Plan::Up(parent, input) => passed_on(
+            step(list, parent, out),
+            node.from - parent.from,
+            input,
+        ),
+        Plan::Here(input, b, c, d, old) => {
+            let from = [node.from, b.from, c.from, d.from];
+            let to = [node.to, b.to, c.to, d.to];
+            one_look(
+                moves::replace_by_move(list, from, to, node.state, input, old.from, old.to, out),
+                input,
+            )
+        }
+    }
+}
+
+// The state of a part, worked out from the two frames above it; 0 where it has no grandparent.
+pub fn first_state(list: &[u16], part: Stretch) -> usize
+    requires { ⌜ Located (now list) (part .from) (part .to) ⌝ }
+    ensures { λ r. ⌜ ((a : Tree) (c : List Frame) → Part (now (list .entry)) (part .from) (part .to) a c → StateIs c r) ⌝ }
+{
+    let Framed::Under(own, _, parent) = frame_above(list, part) else {
+        return 0;
+    };
+    let Framed::Under(parent_kind, _, _) = frame_above(list, parent) else {
+        return 0;
+    };
+    state_of(own, parent_kind)
+}
