@@ -1,4 +1,4 @@
--- A node as the code's functions see it: its part's entries, its level and its state. Only contracts of private functions cite this file.
+-- A node as the code's functions see it: its part's entries, its level and its state. No contract of one of 01's calls cites this file.
 use mathlib.Core.Path.{_≡_}
 use mathlib.Core.List.{List, [], _∷_}
 use Prim.Native.Nat.{ℕ}

@@ -1,4 +1,4 @@
--- What the functions for one step answer: the plan of a step, and the step itself. Only contracts of private functions cite this file.
+-- What the functions for one step answer: the plan of a step, and the step itself. No contract of one of 01's calls cites this file.
 use mathlib.Core.Path.{_≡_}
 use mathlib.Core.Bool.{cond}
 use mathlib.Core.List.{List, _∷_, _++_}
