@@ -11,13 +11,14 @@ use lib.ListN.{length, getD, take, length-take}
 use Rattle.tree.specs.Tree.{Tree, postfix, sign, mostGroups}
 use Rattle.tree.specs.InnerWriting.{Wrote}
 use Rattle.tree.proofs.WritingLaws.{wrote-nothing, wrote-as}
-use Rattle.forms.specs.InnerForms.{Table, tableOf, half, firstPart, secondPart, Holds, Parted}
+use Rattle.forms.specs.InnerForms.{Table, tableOf, half, firstPart, secondPart, Parted}
 use Rattle.forms.specs.declared.Half.{Half}
 use Rattle.forms.specs.declared.Parts.{Parts}
 use Rattle.splits.specs.InnerSplits.{firstHolder, secondHolder, choose, Sized}
 use Rattle.splits.specs.declared.Holder.{Holder}
 use Rattle.splits.specs.declared.Split.{Split}
-use Rattle.builder.specs.InnerBuilding.{postfixOptional, sizeOptional, outer, formed, variableTree, without, build, mostFor, mostFormed, between, variableList, leftWritten, endsThere, beforeWritten, afterWritten, Ready, splitChosen, Turned, HolderTree, Holding, Built}
+use Rattle.builder.specs.InnerBuilding.{postfixOptional, sizeOptional, outer, formed, variableTree, without, build, mostFor, mostFormed, between, variableList, leftWritten, endsThere, beforeWritten, afterWritten, Ready, splitChosen, IsPart, Turned, HolderTree, Holding, Built}
+use Rattle.builder.specs.declared.Part.{Part}
 use Rattle.builder.specs.declared.Turn.{Turn}
 use Rattle.builder.proofs.WritingLaws.{optional-length, variable-list, has-right, form-ends, form-wrote, without-length, left-room, whole-room}
 use Rattle.builder.proofs.ReadyLaws.{variableSize, SplitBuildable, split-buildable}
@@ -35,50 +36,48 @@ module _ {m : Holder} {t : Table} {gs : List ℕ} {n : ℕ} (e : length gs ≡ s
   turn-below q = rw q (turn-split .below)
 
   -- the split's parts, in arrays
-  pub turned : {s : Split} {p : ℕ} {parts : Parts} {rest : List ℕ} {ma mb : Holder} → s ≡ splitChosen m t n → p ≡ 2 ^ s .variable → Parted parts (s .form) t p
-      → take (length gs - 1) rest ≡ without (s .variable) gs → ma ≡ firstHolder (s .plan) → mb ≡ secondHolder (s .plan)
-      → Turned m t gs n (record { form = s .form; x = getD gs (s .variable) 0; rest = rest; a = parts .first; b = parts .second; ma = ma; mb = mb })
+  pub turned : {s : Split} {p : ℕ} {parts : Parts} {rest : List ℕ} {k l : Holder} → s ≡ splitChosen m t n → p ≡ 2 ^ s .variable → Parted parts (s .form) t p
+      → take (length gs - 1) rest ≡ without (s .variable) gs → k ≡ firstHolder (s .plan) → l ≡ secondHolder (s .plan)
+      → Turned m t gs n (record { form = s .form; x = getD gs (s .variable) 0; rest = rest; a = record { rows = parts .first; holder = k }; b = record { rows = parts .second; holder = l } })
   turned {s} {p} {parts} {rest} q w h u v z =
       let k : length gs - 1 ≡ n = omega arith in
       record {
         form = ap (λ (s : Split). s .form) q;
         x = ap (λ (s : Split). getD gs (s .variable) 0) q;
         rest = rw (sym q, sym k) u;
-        a = rw (sym q, sym w) (h .first);
-        b = rw (sym q, sym w) (h .second);
-        ma = v ∙ ap (λ (s : Split). firstHolder (s .plan)) q;
-        mb = z ∙ ap (λ (s : Split). secondHolder (s .plan)) q;
+        a = record { rows = rw (sym q, sym w) (h .first); holder = v ∙ ap (λ (s : Split). firstHolder (s .plan)) q };
+        b = record { rows = rw (sym q, sym w) (h .second); holder = z ∙ ap (λ (s : Split). secondHolder (s .plan)) q };
       }
 
--- ---- what the call for a part is given: its holder mc, `count` rows and n variables of arrays, which are the part's
-pub record Given (m : Holder) (t : Table) (gs : List ℕ) (n count : ℕ) (mc : Holder) (rows : Half) (rest : List ℕ) : Type 0 where
-  pub ons : count ≡ length (take count (rows .on))
-  pub offs : count ≡ length (take count (rows .off))
+-- ---- what the call for a part is given: its holder, `count` rows and n variables of arrays
+pub record Given (m : Holder) (t : Table) (gs : List ℕ) (n count : ℕ) (p : Part) (rest : List ℕ) : Type 0 where
+  pub ons : count ≡ length (take count (p .rows .on))
+  pub offs : count ≡ length (take count (p .rows .off))
   pub others : n ≡ length (take n rest)
-  pub in-ons : count ≤ length (rows .on)
-  pub in-offs : count ≤ length (rows .off)
+  pub in-ons : count ≤ length (p .rows .on)
+  pub in-offs : count ≤ length (p .rows .off)
   pub in-rest : n ≤ length rest
-  pub holder : mc ≡ m
-  pub table : tableOf (take count (rows .on)) (take count (rows .off)) ≡ t
+  pub holder : p .holder ≡ m
+  pub table : tableOf (take count (p .rows .on)) (take count (p .rows .off)) ≡ t
   pub groups : take n rest ≡ gs
   pub ready : Ready m t gs
 
-given : {m : Holder} {t : Table} {gs : List ℕ} {n count : ℕ} {mc : Holder} {rows : Half} {rest : List ℕ} → Ready m t gs → length gs ≡ n → count ≡ 2 ^ n
-    → mc ≡ m → Holds rows count t → take n rest ≡ gs → Given m t gs n count mc rows rest
-given {m} {t} {gs} {n} {count} {mc} {rows} {rest} r e c h w g =
+given : {m : Holder} {t : Table} {gs : List ℕ} {n count : ℕ} {p : Part} {rest : List ℕ} → Ready m t gs → length gs ≡ n → count ≡ 2 ^ n
+    → IsPart p count t m → take n rest ≡ gs → Given m t gs n count p rest
+given {m} {t} {gs} {n} {count} {p} {rest} r e c w g =
     let k : 2 ^ length gs ≡ 2 ^ n = ap (λ (i : ℕ). 2 ^ i) e in
-    let a : length (take count (rows .on)) ≡ count = omega (arith, ap length (w .on), r .table .rows) in
-    let b : length (take count (rows .off)) ≡ count = omega (arith, ap length (w .off), r .table .rows, r .table .same) in
+    let a : length (take count (p .rows .on)) ≡ count = omega (arith, ap length (w .rows .on), r .table .rows) in
+    let b : length (take count (p .rows .off)) ≡ count = omega (arith, ap length (w .rows .off), r .table .rows, r .table .same) in
     let d : length (take n rest) ≡ n = ap length g ∙ e in
     record {
       ons = sym a;
       offs = sym b;
       others = sym d;
-      in-ons = omega (arith, length-take count (rows .on));
-      in-offs = omega (arith, length-take count (rows .off));
+      in-ons = omega (arith, length-take count (p .rows .on));
+      in-offs = omega (arith, length-take count (p .rows .off));
       in-rest = omega (arith, length-take n rest);
-      holder = h;
-      table = ap₂ tableOf (w .on) (w .off);
+      holder = w .holder;
+      table = ap₂ tableOf (w .rows .on) (w .rows .off);
       groups = g;
       ready = r;
     }
@@ -90,14 +89,14 @@ pub record Fits (out : List ℕ) (at : ℕ) (out′ : List ℕ) (next most : ℕ
   pub small : nodes ≤ most
   pub same : length out′ ≡ length out
 
-module _ {m : Holder} {t : Table} {gs : List ℕ} {n count : ℕ} {mc : Holder} {rows : Half} {rest : List ℕ} (g : Given m t gs n count mc rows rest) where
-  pub given-ready : Ready mc (tableOf (take count (rows .on)) (take count (rows .off))) (take n rest)
+module _ {m : Holder} {t : Table} {gs : List ℕ} {n count : ℕ} {p : Part} {rest : List ℕ} (g : Given m t gs n count p rest) where
+  pub given-ready : Ready (p .holder) (tableOf (take count (p .rows .on)) (take count (p .rows .off))) (take n rest)
   given-ready = rw (g .holder, g .table, g .groups) (g .ready)
 
-  pub given-most : (z : ℕ) → mostFor mc (length (take n rest)) z ≡ mostFor m n z
+  pub given-most : (z : ℕ) → mostFor (p .holder) (length (take n rest)) z ≡ mostFor m n z
   given-most z = rw (g .holder, sym (g .others))
 
-  module _ {hs out out′ : List ℕ} {at next : ℕ} (w : Built mc (take count (rows .on)) (take count (rows .off)) (take n rest) hs out at out′ next) where
+  module _ {hs out out′ : List ℕ} {at next : ℕ} (w : Built (p .holder) (take count (p .rows .on)) (take count (p .rows .off)) (take n rest) hs out at out′ next) where
     pub given-wrote : (h : Option Tree) → hs ≡ postfixOptional h → HolderTree m h → Wrote out at out′ next (postfixOptional (build choose n m t gs h))
     given-wrote h q k = rw (sym (g .others), g .holder, g .table, g .groups) at (w .wrote h q (rw (g .holder) k))
 
@@ -150,12 +149,12 @@ module _ {d : ℕ} {m : Holder} {t : Table} {gs hs out : List ℕ} {at n : ℕ} 
   few = omega (arith, others, b .count, b .ready .few)
 
   pub given-a : Given (firstHolder (splitChosen m t n .plan)) (firstPart (splitChosen m t n .form) t (2 ^ splitChosen m t n .variable)) (without (splitChosen m t n .variable) gs) n (half t)
-      (r .ma) (r .a) (r .rest)
-  given-a = given (record { few = few; table = s .first }) others rows (b .turned .ma) (b .turned .a) (b .turned .rest)
+      (r .a) (r .rest)
+  given-a = given (record { few = few; table = s .first }) others rows (b .turned .a) (b .turned .rest)
 
   pub given-b : Given (secondHolder (splitChosen m t n .plan)) (secondPart (splitChosen m t n .form) t (2 ^ splitChosen m t n .variable)) (without (splitChosen m t n .variable) gs) n (half t)
-      (r .mb) (r .b) (r .rest)
-  given-b = given (record { few = few; table = s .second }) others rows (b .turned .mb) (b .turned .b) (b .turned .rest)
+      (r .b) (r .rest)
+  given-b = given (record { few = few; table = s .second }) others rows (b .turned .b) (b .turned .rest)
 
   -- the trees of a and b, where h is the holder's
   abbrev treeA : Option Tree → Option Tree
@@ -195,13 +194,13 @@ module _ {d : ℕ} {m : Holder} {t : Table} {gs hs out : List ℕ} {at n : ℕ} 
   fewer = omega (arith, given-a .others, b .left, b .count)
 
   -- a is built,
-  pub call-a : (length (take n (r .rest)) < d) × (Ready (r .ma) (rowsOf t (r .a)) (take n (r .rest))
-      × (Holding (r .ma) hs × (at + mostFor (r .ma) (length (take n (r .rest))) (length hs) ≤ length out)))
+  pub call-a : (length (take n (r .rest)) < d) × (Ready (r .a .holder) (rowsOf t (r .a .rows)) (take n (r .rest))
+      × (Holding (r .a .holder) hs × (at + mostFor (r .a .holder) (length (take n (r .rest))) (length hs) ≤ length out)))
   call-a =
       let k : at + mostA ≤ length out = omega (arith, form-room, left-room (r .form) true (listX hs r) mostA mostB) in
-      (fewer, (given-ready given-a, (rw (b .turned .ma) holding-a, rw (given-most given-a (length hs)) k)))
+      (fewer, (given-ready given-a, (rw (b .turned .a .holder) holding-a, rw (given-most given-a (length hs)) k)))
 
-  module _ {o₁ : List ℕ} {i : ℕ} (f : Built (r .ma) (take (half t) (r .a .on)) (take (half t) (r .a .off)) (take n (r .rest)) hs out at o₁ i) where
+  module _ {o₁ : List ℕ} {i : ℕ} (f : Built (r .a .holder) (take (half t) (r .a .rows .on)) (take (half t) (r .a .rows .off)) (take n (r .rest)) hs out at o₁ i) where
     fits-a : Fits out at o₁ i mostA
     fits-a = given-fits given-a f holding-a
 
@@ -240,7 +239,7 @@ pub record Passed (d : ℕ) (m : Holder) (t : Table) (gs hs out : List ℕ) (at 
   pub begun : Begun d m t gs hs out at n r
   pub o₁ : List ℕ
   pub i : ℕ
-  pub a : Built (r .ma) (take (half t) (r .a .on)) (take (half t) (r .a .off)) (take n (r .rest)) hs out at o₁ i
+  pub a : Built (r .a .holder) (take (half t) (r .a .rows .on)) (take (half t) (r .a .rows .off)) (take n (r .rest)) hs out at o₁ i
   pub o₂ : List ℕ
   pub leftDone : Wrote o₁ i o₂ left (leftWritten (r .form) (eqb at i) (listX hs r))
   pub goes : endsThere (r .form) (eqb at left) ≡ false
@@ -252,14 +251,14 @@ module _ {d : ℕ} {m : Holder} {t : Table} {gs hs out : List ℕ} {at n : ℕ} 
   need-b to nb k = omega (arith, whole-need (p .begun) (p .a) (p .leftDone) (p .goes) middle to nb k, p .before .ends, p .before .same)
 
   -- b is built,
-  pub call-b : (length (take n (r .rest)) < d) × (Ready (r .mb) (rowsOf t (r .b)) (take n (r .rest))
-      × (Holding (r .mb) hs × (middle + mostFor (r .mb) (length (take n (r .rest))) (length hs) ≤ length o₃)))
+  pub call-b : (length (take n (r .rest)) < d) × (Ready (r .b .holder) (rowsOf t (r .b .rows)) (take n (r .rest))
+      × (Holding (r .b .holder) hs × (middle + mostFor (r .b .holder) (length (take n (r .rest))) (length hs) ≤ length o₃)))
   call-b =
       let b = p .begun in
       let k : middle + mostB b ≤ length o₃ = omega (arith, need-b 0 (mostB b) (le-refl (mostB b))) in
-      (fewer b, (given-ready (given-b b), (rw (b .turned .mb) (holding-b b), rw (given-most (given-b b) (length hs)) k)))
+      (fewer b, (given-ready (given-b b), (rw (b .turned .b .holder) (holding-b b), rw (given-most (given-b b) (length hs)) k)))
 
-  module _ {o₄ : List ℕ} {to : ℕ} (q : Built (r .mb) (take (half t) (r .b .on)) (take (half t) (r .b .off)) (take n (r .rest)) hs o₃ middle o₄ to) where
+  module _ {o₄ : List ℕ} {to : ℕ} (q : Built (r .b .holder) (take (half t) (r .b .rows .on)) (take (half t) (r .b .rows .off)) (take n (r .rest)) hs o₃ middle o₄ to) where
     fits-b : Fits o₃ middle o₄ to (mostB (p .begun))
     fits-b = given-fits (given-b (p .begun)) q (holding-b (p .begun))
 

@@ -17,6 +17,7 @@ use Rattle.splits.specs.InnerSplits.{canHold, firstHolder, secondHolder, splitT
 use Rattle.splits.specs.declared.Holder.{Holder}
 use Rattle.splits.specs.declared.Holder.the-variants.{Absent, Dropped, Held}
 use Rattle.splits.specs.declared.Split.{Split}
+use Rattle.builder.specs.declared.Part.{Part}
 use Rattle.builder.specs.declared.Turn.{Turn}
 
 -- ---- no tree or a tree: its list, and its nodes
@@ -204,15 +205,18 @@ pub record Ready (m : Holder) (t : Table) (gs : List ℕ) : Type 0 where
 abbrev pub splitChosen : Holder → Table → ℕ → Split
 splitChosen m t n = splitTaken m t n (choose m t n)
 
--- its form and its variable, the other variables, and the rows of a and b and what becomes of the holder there
+-- a part's `count` rows, in arrays, are those of the table t, and k becomes of the holder
+pub record IsPart (p : Part) (count : ℕ) (t : Table) (k : Holder) : Type 0 where
+  pub rows : Holds (p .rows) count t
+  pub holder : p .holder ≡ k
+
+-- its form and its variable, the other variables, and the parts a and b
 pub record Turned (m : Holder) (t : Table) (gs : List ℕ) (n : ℕ) (r : Turn) : Type 0 where
   pub form : r .form ≡ splitChosen m t n .form
   pub x : r .x ≡ getD gs (splitChosen m t n .variable) 0
   pub rest : take n (r .rest) ≡ without (splitChosen m t n .variable) gs
-  pub a : Holds (r .a) (half t) (firstPart (splitChosen m t n .form) t (2 ^ splitChosen m t n .variable))
-  pub b : Holds (r .b) (half t) (secondPart (splitChosen m t n .form) t (2 ^ splitChosen m t n .variable))
-  pub ma : r .ma ≡ firstHolder (splitChosen m t n .plan)
-  pub mb : r .mb ≡ secondHolder (splitChosen m t n .plan)
+  pub a : IsPart (r .a) (half t) (firstPart (splitChosen m t n .form) t (2 ^ splitChosen m t n .variable)) (firstHolder (splitChosen m t n .plan))
+  pub b : IsPart (r .b) (half t) (secondPart (splitChosen m t n .form) t (2 ^ splitChosen m t n .variable)) (secondHolder (splitChosen m t n .plan))
 
 -- the holder has a tree where it is a variable
 abbrev pub HolderTree : Holder → Option Tree → Type 0

@@ -193,15 +193,19 @@ fn without(groups: &[u16], v: usize) -> [u16; MOST_GROUPS]
 
 // ---- the tree of a table
 
-// A split of a table: its form, its variable x and the other variables, and the rows of a and b and what becomes of the holder there.
+// A part of a table: its rows, and what becomes of the holder in its tree.
+struct Part {
+    rows: Half,
+    holder: Holder,
+}
+
+// A split of a table: its form, its variable x and the other variables, and the parts a and b.
 struct Turn {
     form: Form,
     x: u16,
     rest: [u16; MOST_GROUPS],
-    a: Half,
-    b: Half,
-    ma: Holder,
-    mb: Holder,
+    a: Part,
+    b: Part,
 }
 
 // The split that is taken at a table over n variables and one more.
@@ -215,16 +219,20 @@ fn turn_of(on: &[bool], off: &[bool], m: Holder, groups: &[u16], n: usize) -> Tu
     let plan = split.plan;
     let power = forms::power(v);
     let parts = forms::split(on, off, power, form);
-    let a = parts.first;
-    let b = parts.second;
+    let first = parts.first;
+    let second = parts.second;
     Turn {
         form,
         x: groups[v],
         rest: without(groups, v),
-        a,
-        b,
-        ma: splits::first_holder(plan),
-        mb: splits::second_holder(plan),
+        a: Part {
+            rows: first,
+            holder: splits::first_holder(plan),
+        },
+        b: Part {
+            rows: second,
+            holder: splits::second_holder(plan),
+        },
     }
 }
 
@@ -254,13 +262,14 @@ pub fn build(
     let x = turn.x;
     let rest = turn.rest;
     let first = turn.a;
-    let a_on = first.on;
-    let a_off = first.off;
-    let ma = turn.ma;
+    let a_rows = first.rows;
+    let a_on = a_rows.on;
+    let a_off = a_rows.off;
+    let a_holder = first.holder;
     let a = build(
         &a_on[..count],
         &a_off[..count],
-        ma,
+        a_holder,
         &rest[..n],
         holder,
         out,
@@ -273,13 +282,14 @@ pub fn build(
     }
     let middle = write_before(form, x, holder, out, left);
     let second = turn.b;
-    let b_on = second.on;
-    let b_off = second.off;
-    let mb = turn.mb;
+    let b_rows = second.rows;
+    let b_on = b_rows.on;
+    let b_off = b_rows.off;
+    let b_holder = second.holder;
     let b = build(
         &b_on[..count],
         &b_off[..count],
-        mb,
+        b_holder,
         &rest[..n],
         holder,
         out,
