@@ -18,15 +18,15 @@ use Rattle.tree.proofs.TreeLaws.{size-positive, postfix-length}
 use Rattle.tree.proofs.ContextLaws.{locate-left, locate-right, locate-here}
 use Rattle.tree.proofs.ParseLaws.{IsTree, tree-length, the-tree, no-tree-of}
 use Rattle.tree.proofs.WritingLaws.{wrote-over}
-use Rattle.coder.specs.Need.{leftFirst}
-use Rattle.coder.specs.Code.{code, codePlace, runFirst, runCount}
-use Rattle.coder.proofs.CodeLaws.{codeNumbers, length-code, length-numbers}
+use Rattle.code.specs.Need.{leftFirst}
+use Rattle.code.specs.Code.{code, codePlace, runFirst, runCount}
+use Rattle.code.proofs.CodeLaws.{codeNumbers, length-code, length-numbers}
 use Rattle.coder.specs.InnerNotes.{NodeAt, Noted, middle, leftIsFirst, HasChildren, StepsDown, Writable}
 use Rattle.coder.specs.Coding.{leastBuffer, codedSays, Encodes, runOf}
 use Rattle.coder.specs.declared.Coded.{Coded}
 use Rattle.coder.specs.declared.Coded.the-variants.{Done, Refused}
-use Rattle.coder.proofs.NeedLaws.{need-most}
-use Rattle.coder.proofs.RunLaws.{code-stands, before-left, before-right}
+use Rattle.code.proofs.NeedLaws.{need-most}
+use Rattle.code.proofs.RunLaws.{code-stands, before-left, before-right}
 use Rattle.coder.proofs.NoteLaws.{Split, split, left-node, right-node, node-at, node-inside}
 use Rattle.coder.proofs.WriterLaws.{Writes}
 

@@ -1,8 +1,4 @@
--- The theorems about the code of a tree, in Theorems; and the laws of the definitions in specs/, for this crate and those above.
-pub mod NeedLaws
-pub mod CodeLaws
-pub mod RunLaws
-pub mod Theorems
+-- The laws of the definitions in specs/, for this crate and those above it.
 pub mod NoteLaws
 pub mod WriterLaws
 pub mod CodingLaws

@@ -15,9 +15,9 @@ use Rattle.tree.specs.Parse.{treeOf, isSome, locate}
 use Rattle.tree.proofs.TreeLaws.{size-positive, group-most, sign-least}
 use Rattle.tree.proofs.ParseLaws.{IsTree, the-tree, tree-few}
 use Rattle.tree.proofs.PartLaws.{part-length, part-leaf, part-node, part-ends, part-left, part-right, part-of-entry}
-use Rattle.coder.specs.Need.{needOf, need, leftFirst}
+use Rattle.code.specs.Need.{needOf, need, leftFirst}
 use Rattle.coder.specs.InnerNotes.{NodeAt, NotedBelow, middle, leftIsFirst, HasChildren, ChildrenInOrder, StepsDown}
-use Rattle.coder.proofs.NeedLaws.{need-most}
+use Rattle.code.proofs.NeedLaws.{need-most}
 
 -- the part of a node whose entry is below the operators is a leaf
 pub as-leaf : {l : List ℕ} {e : ℕ} (a : Tree) → NodeAt l e a → getD l e 0 < sign union → (h : T (isGroup (getD l e 0))) × (a ≡ leaf (getD l e 0) h)

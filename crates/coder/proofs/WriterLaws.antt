@@ -1,22 +1,24 @@
 -- What the writer leaves: an instruction's four numbers; a leaf's code; and a node's, from the code of its two children.
 use mathlib.Core.Path.{_≡_, refl, sym, ap, _∙_}
 use mathlib.Core.Bool.{Bool, true, false, cond}
-use mathlib.Core.List.{List, [], _∷_}
+use mathlib.Core.List.{List, [], _∷_, _++_, append-assoc}
 use Prim.Native.Nat.{ℕ, suc, _+_, _-_, _*_, _≤_, _<_}
 use native.Mathlib.Omega.{arith}
+use lib.Dec.{T}
 use lib.ListN.{length, getD, set, length-set}
-use Rattle.tree.specs.Tree.{Operator, union, difference, Tree, leaf, node, sign, size}
+use Rattle.tree.specs.Tree.{Operator, union, difference, Tree, leaf, node, sign, isGroup, size}
 use Rattle.tree.specs.InnerWriting.{Wrote}
 use Rattle.tree.proofs.TreeLaws.{size-positive, group-most}
 use Rattle.tree.proofs.PartLaws.{part-leaf, part-node}
 use Rattle.tree.proofs.WritingLaws.{wrote-then, wrote-as}
 use Rattle.player.specs.Limits.{registerCount}
 use Rattle.player.specs.Instructions.{loadKind, addKind, cutKind, numbersOf}
-use Rattle.coder.specs.Need.{need, leftFirst}
-use Rattle.coder.proofs.NeedLaws.{first, second, need-node, need-positive}
+use Rattle.player.proofs.InstructionLaws.{numbers-append}
+use Rattle.code.specs.Need.{need, leftFirst}
+use Rattle.code.proofs.NeedLaws.{first, second, need-node, need-positive}
 use Rattle.coder.specs.InnerNotes.{operationKind, NodeAt, middle, leftIsFirst, HasChildren, ChildrenInOrder, Writable}
-use Rattle.coder.specs.Code.{code}
-use Rattle.coder.proofs.CodeLaws.{size-node, length-numbers, numbers-leaf, numbers-node}
+use Rattle.code.specs.Code.{operation, code}
+use Rattle.code.proofs.CodeLaws.{code-leaf, code-node, size-node, length-numbers}
 use Rattle.coder.proofs.NoteLaws.{as-leaf, node-inside, Split, split}
 
 pub wrote-four : (out : List ℕ) (at a b c d : ℕ) → Wrote out at (set (set (set (set out at a) (at + 1) b) (at + 2) c) (at + 3) d) (at + 4) (a ∷ b ∷ c ∷ d ∷ [])
@@ -25,6 +27,21 @@ wrote-four out at a b c d =
     let two : at + 2 ≡ suc (suc at) = omega arith in
     let three : at + 3 ≡ suc (suc (suc at)) = omega arith in
     record { list = rw (one, two, three); ends = refl; same = simp length-set }
+
+-- ---- the numbers of a tree's code
+operation-numbers : (o : Operator) (k a b : ℕ) → numbersOf (operation o k a b ∷ []) ≡ operationKind o ∷ k ∷ a ∷ b ∷ []
+unfolding numbersOf
+operation-numbers union k a b = refl
+operation-numbers difference k a b = refl
+
+numbers-leaf : (g : ℕ) (h : T (isGroup g)) (k : ℕ) → numbersOf (code (leaf g h) k) ≡ loadKind ∷ k ∷ g ∷ 0 ∷ []
+unfolding numbersOf
+numbers-leaf g h k = ap numbersOf (code-leaf g h k)
+
+numbers-node : (o : Operator) (l r : Tree) (k a b : ℕ) → a ≡ cond (leftFirst l r) k (k + 1) → b ≡ cond (leftFirst l r) (k + 1) k
+    → (numbersOf (code (first l r) k) ++ numbersOf (code (second l r) (k + 1))) ++ (operationKind o ∷ k ∷ a ∷ b ∷ []) ≡ numbersOf (code (node o l r) k)
+numbers-node o l r k a b e f =
+    rw (code-node o l r k, numbers-append, numbers-append, operation-numbers, e, f) (simp append-assoc)
 
 pub kind-union : (x : ℕ) → x ≡ sign union → (o : Operator) → x ≡ sign o → addKind ≡ operationKind o
 kind-union x e union h = refl

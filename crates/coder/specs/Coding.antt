@@ -12,7 +12,7 @@ use Rattle.tree.specs.Context.{Place}
 use Rattle.tree.specs.Parse.{treeOf, isSome, locate}
 use Rattle.tree.specs.Writing.{over}
 use Rattle.player.specs.Instructions.{Instruction, numbersOf}
-use Rattle.coder.specs.Code.{code, runFirst, runCount}
+use Rattle.code.specs.Code.{code, runFirst, runCount}
 use Rattle.coder.specs.declared.Coded.{Coded}
 use Rattle.coder.specs.declared.Coded.the-variants.{Done, Refused}
 use Rattle.coder.specs.declared.Run.{Run}

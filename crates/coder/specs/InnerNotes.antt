@@ -11,7 +11,7 @@ use Rattle.tree.specs.Context.{Frame}
 use Rattle.tree.specs.InnerPart.{Part}
 use Rattle.player.specs.Limits.{registerCount}
 use Rattle.player.specs.Instructions.{addKind, cutKind}
-use Rattle.coder.specs.Need.{need}
+use Rattle.code.specs.Need.{need}
 
 -- the list is a tree in which the node at the position `end` is the root of the part a
 pub record NodeAt (list : List ℕ) (end : ℕ) (a : Tree) : Type 0 where

@@ -13,9 +13,9 @@ ghost use Rattle.tree.specs.Parse.{treeOf, isSome, locate};
 ghost use Rattle.tree.specs.InnerWriting.{Wrote};
 ghost use Rattle.player.specs.Limits.{registerCount};
 ghost use Rattle.player.specs.Instructions.{numbersOf};
-ghost use Rattle.coder.specs.Need.{needOf};
+ghost use Rattle.code.specs.Need.{needOf};
 ghost use Rattle.coder.specs.InnerNotes.{operationKind, NodeAt, Noted, HasChildren, ChildrenInOrder, StepsDown, Writable};
-ghost use Rattle.coder.specs.Code.{code as codeOf, runFirst};
+ghost use Rattle.code.specs.Code.{code as codeOf, runFirst};
 ghost use Rattle.coder.specs.Coding.{Encodes, runOf};
 
 // Four numbers for each of 8,191 instructions.

@@ -12,9 +12,9 @@ use Rattle.player.specs.Limits.{registerCount, byteCount}
 use Rattle.player.specs.Instructions.{Instruction}
 use Rattle.player.specs.Patches.{rig}
 use Rattle.player.specs.Bytes.{bytes}
-use Rattle.coder.specs.Code.{code, codePlace, ownCode, runFirst, runCount}
-use Rattle.coder.specs.Effects.{Every, Names, stretch, ClosedRun, LoadsApart}
-use Rattle.coder.proofs.Theorems.{thirteen-suffice, run-own, closed-run, loads-apart, code-lights}
+use Rattle.code.specs.Code.{code, codePlace, ownCode, runFirst, runCount}
+use Rattle.code.specs.Effects.{Every, Names, stretch, ClosedRun, LoadsApart}
+use Rattle.code.proofs.Theorems.{thirteen-suffice, run-own, closed-run, loads-apart, code-lights}
 use Rattle.gather.specs.Gathering.{CannotBeGathered}
 use Rattle.printing.specs.Key.{Held, unmarked, heldRun, cannot}
 use Rattle.sheet.specs.Reading.{LiftLine}

@@ -11,13 +11,13 @@ use Rattle.tree.proofs.ParseLaws.{tree-of-postfix}
 use Rattle.text.specs.Line.{lines}
 use Rattle.player.specs.Instructions.{Instruction}
 use Rattle.player.proofs.InstructionLaws.{numbers-length, instructions-numbers}
-use Rattle.coder.specs.Code.{code}
-use Rattle.coder.proofs.CodeLaws.{codeNumbers}
+use Rattle.code.specs.Code.{code}
+use Rattle.code.proofs.CodeLaws.{codeNumbers}
 use Rattle.coder.specs.Coding.{leastBuffer, Encodes}
 use Rattle.coder.specs.declared.Coded.{Coded}
 use Rattle.coder.specs.declared.Coded.the-variants.{Done, Refused}
 use Rattle.coder.proofs.CodingLaws.{EncodesTree, encodes-tree}
-use Rattle.coder.proofs.Theorems.{code-length, code-well-formed}
+use Rattle.code.proofs.Theorems.{code-length, code-well-formed}
 use Rattle.printing.specs.Key.{instructionRows}
 use Rattle.lift_lines.specs.Inner.{IsList}
 use Rattle.key.specs.Inner.{instructionBytes}

@@ -16,10 +16,10 @@ use Rattle.tree.proofs.ContextLaws.{locate-plug, position-most}
 use Rattle.tree.proofs.ParseLaws.{tree-of-postfix}
 use Rattle.tree.proofs.WritingLaws.{wrote-then, wrote-as, take-over}
 use Rattle.text.specs.Line.{line, lines}
-use Rattle.coder.specs.Code.{code, codePlace, runFirst, runCount}
+use Rattle.code.specs.Code.{code, codePlace, runFirst, runCount}
 use Rattle.coder.specs.Coding.{codeOfList, runOf}
 use Rattle.coder.specs.declared.Run.{Run}
-use Rattle.coder.proofs.Theorems.{code-length, code-well-formed, closed-run}
+use Rattle.code.proofs.Theorems.{code-length, code-well-formed, closed-run}
 use Rattle.gather.specs.Gathering.{Gathered, CannotBeGathered}
 use Rattle.gather.specs.Answer.{gatherFault, GatheredTo, GathersTree, Gathers}
 use Rattle.gather.specs.InnerGathered.{gatheredBy, holderOf, Returned, GathersBy}

@@ -12,8 +12,8 @@ use Rattle.player.specs.Bytes.{bytes}
 use Rattle.player.specs.Playing.{wrongPairCount, wrongPatch, Plays}
 use Rattle.player.specs.declared.Played.{Played}
 use Rattle.player.specs.declared.Played.the-variants.{Done}
-use Rattle.coder.specs.Code.{code, codePlace, ownCode, runFirst, runCount}
-use Rattle.coder.specs.Effects.{Every, Names, stretch, ClosedRun, LoadsApart}
+use Rattle.code.specs.Code.{code, codePlace, ownCode, runFirst, runCount}
+use Rattle.code.specs.Effects.{Every, Names, stretch, ClosedRun, LoadsApart}
 use Rattle.gather.specs.Gathering.{Gathered, CannotBeGathered}
 use Rattle.printing.specs.Key.{LiftAnswer, Held, unmarked, heldRun, cannot}
 use Rattle.sheet.specs.Reading.{LiftLine}

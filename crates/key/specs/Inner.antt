@@ -9,7 +9,7 @@ use Rattle.tree.specs.InnerGroups.{Distinct}
 use Rattle.tree.specs.InnerWriting.{Wrote}
 use Rattle.text.specs.Line.{lines}
 use Rattle.player.specs.Instructions.{Instruction}
-use Rattle.coder.specs.Code.{code}
+use Rattle.code.specs.Code.{code}
 use Rattle.gather.specs.Gathering.{CannotBeGathered}
 use Rattle.sheet.specs.Reading.{ReadingState, ReadingOutcome, accepted, reading, sheetOf}
 use Rattle.sheet.specs.declared.Sheet.{Sheet}

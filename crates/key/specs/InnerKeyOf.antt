@@ -10,7 +10,7 @@ use Rattle.tree.specs.Tree.{Tree}
 use Rattle.tree.specs.Parse.{treeOf}
 use Rattle.tree.specs.Writing.{over}
 use Rattle.player.specs.Instructions.{Instruction}
-use Rattle.coder.specs.Code.{code}
+use Rattle.code.specs.Code.{code}
 use Rattle.coder.specs.Coding.{codeOfList, runOf}
 use Rattle.coder.specs.declared.Run.{Run}
 use Rattle.gather.specs.InnerGathered.{gatheredBy, holderOf}

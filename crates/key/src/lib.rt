@@ -4,7 +4,7 @@ ghost use lib.ListN.{length};
 ghost use Rattle.tree.specs.Tree.{Tree, mostNodes};
 ghost use Rattle.tree.specs.InnerWriting.{Wrote};
 ghost use Rattle.text.specs.Line.{lines};
-ghost use Rattle.coder.specs.Code.{code as codeOf};
+ghost use Rattle.code.specs.Code.{code as codeOf};
 ghost use Rattle.sheet.specs.Reading.{ReadingState, accepted};
 ghost use Rattle.printing.specs.Key.{instructionRows};
 ghost use Rattle.key.specs.Call.{keyBytes, KeyCall};

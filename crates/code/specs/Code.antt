@@ -6,7 +6,7 @@ use lib.ListN.{length}
 use Rattle.tree.specs.Tree.{Operator, union, difference, Tree, node}
 use Rattle.tree.specs.Context.{Side, left, right, Frame, frame, sided}
 use Rattle.player.specs.Instructions.{Instruction, load, add, cut}
-use Rattle.coder.specs.Need.{leftFirst, inOrder}
+use Rattle.code.specs.Need.{leftFirst, inOrder}
 
 -- "ADD (2) target, s, t: union of registers s and t. CUT (3) target, s, t: s without t"
 abbrev pub operation : Operator → ℕ → ℕ → ℕ → Instruction

@@ -12,10 +12,10 @@ use Rattle.tree.specs.Tree.{Operator, union, difference, Tree, node, size}
 use Rattle.tree.specs.Context.{Side, left, right, Frame, frame, sided, plug, OverAbove}
 use Rattle.tree.proofs.TreeLaws.{or-right}
 use Rattle.player.specs.Instructions.{Instruction, load, add, cut}
-use Rattle.coder.specs.Need.{leftFirst}
-use Rattle.coder.specs.Code.{operation, combine, code, CodePlace, placeOfFirst, placeOfSecond, placeOfChild, codePlace}
-use Rattle.coder.specs.Effects.{Every, Names, Loads, writes, reads, Closed, writtenAfter, readFirst}
-use Rattle.coder.proofs.CodeLaws.{code-node, code-by, length-code, every-append, loads}
+use Rattle.code.specs.Need.{leftFirst}
+use Rattle.code.specs.Code.{operation, combine, code, CodePlace, placeOfFirst, placeOfSecond, placeOfChild, codePlace}
+use Rattle.code.specs.Effects.{Every, Names, Loads, writes, reads, Closed, writtenAfter, readFirst}
+use Rattle.code.proofs.CodeLaws.{code-node, code-by, length-code, every-append, loads}
 
 -- ---- what an operator's instruction reads and writes
 operation-writes : (o : Operator) (k a b q : ℕ) → writes (operation o k a b) q ≡ eqb q k

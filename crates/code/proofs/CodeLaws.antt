@@ -2,20 +2,19 @@
 -- names and the groups that it loads.
 use mathlib.Core.Path.{_≡_, refl, ap, _∙_}
 use mathlib.Core.Bool.{Bool, true, false, cond}
-use mathlib.Core.List.{List, [], _∷_, _++_, append-assoc}
+use mathlib.Core.List.{List, [], _∷_, _++_}
 use Prim.Native.Nat.{ℕ, _+_, _*_, _≤_, _<_}
 use native.Mathlib.Omega.{arith}
 use borrow.Author.Tests.{eq-eqb, ne-eqb}
 use lib.Dec.{T}
 use lib.ListN.{length, length-append}
 use Rattle.tree.specs.Tree.{Operator, union, difference, Tree, leaf, node, isGroup, size, Rig, apply, selects, selected, Over}
-use Rattle.player.specs.Instructions.{Lamps, Registers, Instruction, load, add, cut, loadKind, run, numbersOf}
-use Rattle.player.proofs.InstructionLaws.{run-append, numbers-append, numbers-length}
-use Rattle.coder.specs.Need.{leftFirst, inOrder}
-use Rattle.coder.proofs.NeedLaws.{first, second, in-order-node, in-order-by, mostWaiting, waiting-node, waiting-need, need-positive}
-use Rattle.coder.specs.Code.{operation, combine, code}
-use Rattle.coder.specs.InnerNotes.{operationKind}
-use Rattle.coder.specs.Effects.{Every, Within, Names, Loads}
+use Rattle.player.specs.Instructions.{Lamps, Registers, Instruction, load, add, cut, run, numbersOf}
+use Rattle.player.proofs.InstructionLaws.{run-append, numbers-length}
+use Rattle.code.specs.Need.{leftFirst, inOrder}
+use Rattle.code.proofs.NeedLaws.{first, second, in-order-node, in-order-by, mostWaiting, waiting-node, waiting-need, need-positive}
+use Rattle.code.specs.Code.{operation, combine, code}
+use Rattle.code.specs.Effects.{Every, Within, Names, Loads}
 
 -- "The root's target is 0": the numbers of a tree's code, four for each instruction
 abbrev pub codeNumbers : Tree → List ℕ
@@ -103,21 +102,6 @@ module _ (rig : Rig) where
       code-by (λ k t is. Leaves rig t k is)
       (λ k g h. record { target = λ R. unfold run selects in rw (eq-eqb k k refl); below = λ R q lt. unfold run in rw (ne-eqb q k (λ e. omega arith)) })
       leaves-node
-
--- ---- numbers
-pub operation-numbers : (o : Operator) (k a b : ℕ) → numbersOf (operation o k a b ∷ []) ≡ operationKind o ∷ k ∷ a ∷ b ∷ []
-unfolding numbersOf
-operation-numbers union k a b = refl
-operation-numbers difference k a b = refl
-
-pub numbers-leaf : (g : ℕ) (h : T (isGroup g)) (k : ℕ) → numbersOf (code (leaf g h) k) ≡ loadKind ∷ k ∷ g ∷ 0 ∷ []
-unfolding numbersOf
-numbers-leaf g h k = ap numbersOf (code-leaf g h k)
-
-pub numbers-node : (o : Operator) (l r : Tree) (k a b : ℕ) → a ≡ cond (leftFirst l r) k (k + 1) → b ≡ cond (leftFirst l r) (k + 1) k
-    → (numbersOf (code (first l r) k) ++ numbersOf (code (second l r) (k + 1))) ++ (operationKind o ∷ k ∷ a ∷ b ∷ []) ≡ numbersOf (code (node o l r) k)
-numbers-node o l r k a b e f =
-    rw (code-node o l r k, numbers-append, numbers-append, operation-numbers, e, f) (simp append-assoc)
 
 -- ---- the registers that are named
 pub every-append : (P : Instruction → Type 0) (xs ys : List Instruction) → Every P xs → Every P ys → Every P (xs ++ ys)

@@ -22,12 +22,12 @@ use Rattle.player.specs.Bytes.{bytes}
 use Rattle.player.specs.Playing.{wrongPairCount, wrongPatch, playFault, Plays}
 use Rattle.player.specs.declared.Played.{Played}
 use Rattle.player.specs.declared.Played.the-variants.{Done}
-use Rattle.coder.specs.Need.{need}
-use Rattle.coder.specs.Code.{code, codePlace, ownCode, runFirst, runCount}
-use Rattle.coder.proofs.CodeLaws.{codeNumbers, length-code, leaves, every-implies, wider, names-waiting, loads}
-use Rattle.coder.specs.Effects.{Every, Names, Loads, writtenAfter, readFirst, noneWritten, ahead, stretch, behind, ClosedRun, LoadsApart}
-use Rattle.coder.proofs.NeedLaws.{need-most, waiting-need}
-use Rattle.coder.proofs.RunLaws.{closed-code, low-written, code-stands, behind-unread, loads-around}
+use Rattle.code.specs.Need.{need}
+use Rattle.code.specs.Code.{code, codePlace, ownCode, runFirst, runCount}
+use Rattle.code.proofs.CodeLaws.{codeNumbers, length-code, leaves, every-implies, wider, names-waiting, loads}
+use Rattle.code.specs.Effects.{Every, Names, Loads, writtenAfter, readFirst, noneWritten, ahead, stretch, behind, ClosedRun, LoadsApart}
+use Rattle.code.proofs.NeedLaws.{need-most, waiting-need}
+use Rattle.code.proofs.RunLaws.{closed-code, low-written, code-stands, behind-unread, loads-around}
 
 -- ---- 1. Running the code of a tree, by the player's own definition, from any registers leaves in the target exactly what
 -- the tree selects in the rig, and every register below the target as it was.

@@ -10,7 +10,7 @@ use lib.Dec.{T, eqb, leb}
 use lib.Pow.{pow-lt}
 use borrow.Author.Tests.{eqb-true, eqb-false, leb-true, leb-false}
 use Rattle.tree.specs.Tree.{Operator, Tree, leaf, node, isGroup, size, mostNodes}
-use Rattle.coder.specs.Need.{needOf, need, leftFirst, inOrder}
+use Rattle.code.specs.Need.{needOf, need, leftFirst, inOrder}
 
 abbrev pub first : Tree → Tree → Tree
 first l r = cond (leftFirst l r) l r
