@@ -1,4 +1,4 @@
-// What a key says, as lines of bytes: the lines of a code's instructions.
+// What a key says and the bytes that say it, in specs/Key.antt; and the lines of a code's instructions, written.
 ghost use Prim.Native.Nat.{_+_, _≤_};
 ghost use lib.ListN.{length};
 ghost use Rattle.tree.specs.InnerWriting.{Wrote};
