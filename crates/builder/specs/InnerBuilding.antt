@@ -201,14 +201,14 @@ pub record Ready (m : Holder) (t : Table) (gs : List ℕ) : Type 0 where
   pub few : length gs ≤ mostGroups
   pub table : Buildable m t gs
 
--- the split that is taken at a table over n variables and one more
-abbrev pub splitChosen : Holder → Table → ℕ → Split
-splitChosen m t n = splitTaken m t n (choose m t n)
-
--- a part's `count` rows, in arrays, are those of the table t, and k becomes of the holder
+-- the first `count` rows of a part are the table t, and k becomes of the holder in its tree
 pub record IsPart (p : Part) (count : ℕ) (t : Table) (k : Holder) : Type 0 where
   pub rows : Holds (p .rows) count t
   pub holder : p .holder ≡ k
+
+-- the split that is taken at a table over n variables and one more
+abbrev pub splitChosen : Holder → Table → ℕ → Split
+splitChosen m t n = splitTaken m t n (choose m t n)
 
 -- its form and its variable, the other variables, and the parts a and b
 pub record Turned (m : Holder) (t : Table) (gs : List ℕ) (n : ℕ) (r : Turn) : Type 0 where
