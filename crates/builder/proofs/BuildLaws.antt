@@ -13,11 +13,12 @@ use Rattle.tree.specs.Tree.{union, difference, Tree, isGroup, isIn}
 use Rattle.tree.specs.InnerGroups.{Distinct}
 use Rattle.table.specs.InnerTable.{filling}
 use Rattle.table.proofs.TableLaws.{rowOf, row-below, row-agree, row-filling}
-use Rattle.forms.specs.InnerForms.{Table, half, rowAt, lowRow, firstRow, secondRow, firstPart, secondPart, usable, someOn}
+use Rattle.forms.specs.InnerForms.{firstRow, secondRow}
+use Rattle.free_tables.specs.InnerTables.{Table, half, rowAt, lowRow, firstPart, secondPart, usable, someOn}
 use Rattle.forms.specs.declared.Row.{Row}
 use Rattle.forms.specs.declared.Form.{Form}
 use Rattle.forms.specs.declared.Form.the-variants.{Drop, Less, Plus, ReducedPlus, JoinedLess, LessOutside, ReducedUnion, JoinedDifference}
-use Rattle.forms.proofs.SearchLaws.{some-fails}
+use Rattle.free_tables.proofs.SearchLaws.{some-fails}
 use Rattle.forms.proofs.TestLaws.{both}
 use Rattle.forms.proofs.FormLaws.{fits, formValue, forms-law}
 use Rattle.splits.specs.InnerSplits.{isDrop, firstHolder, secondHolder, splitTaken}

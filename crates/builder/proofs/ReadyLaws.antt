@@ -14,14 +14,15 @@ use lib.Seq.{getD-at, take-append-seam, take-append-le, drop-append-le}
 use Rattle.tree.specs.Tree.{Tree, leaf, isGroup, isIn}
 use Rattle.tree.proofs.TreeLaws.{or-cases, is-in-append, in-left, in-right}
 use Rattle.tree.proofs.GroupLaws.{is-in-here, in-later}
-use Rattle.forms.specs.InnerForms.{Table, half, rowAt, lowRow, atPair, splitBy, firstRow, secondRow, firstPart, secondPart, usable}
+use Rattle.forms.specs.InnerForms.{firstRow, secondRow}
+use Rattle.free_tables.specs.InnerTables.{Table, half, rowAt, lowRow, atPair, splitBy, firstPart, secondPart, usable}
 use Rattle.forms.specs.declared.Row.{Row}
 use Rattle.forms.specs.declared.Form.{Form}
 use Rattle.forms.specs.declared.Form.the-variants.{Drop, Less, Plus, ReducedPlus, JoinedLess, LessOutside, ReducedUnion, JoinedDifference}
 use Rattle.forms.proofs.TestLaws.{both}
 use Rattle.forms.proofs.FormLaws.{leafCount, consistent-rows}
 use Rattle.table.proofs.TableLaws.{length-tabulate}
-use Rattle.splits.proofs.HolderLaws.{keeps-once}
+use Rattle.forms.proofs.HolderLaws.{keeps-once}
 use Rattle.splits.specs.InnerSplits.{formCount, formOf, isDrop, keepsHolder, allowedTop, firstTop, firstHolder, secondHolder, splitTaken}
 use Rattle.splits.specs.declared.Holder.{Holder}
 use Rattle.splits.specs.declared.Holder.the-variants.{Absent, Dropped, Held}

@@ -9,11 +9,12 @@ use borrow.Author.Tests.{not-true}
 use lib.ListN.{length, getD, take, drop, take-append-drop}
 use Rattle.tree.proofs.PassLaws.{here}
 use Rattle.table.proofs.TableLaws.{rowOf, row-below, row-append, tabulate-at, length-tabulate}
-use Rattle.forms.specs.InnerSearch.{allPass}
-use Rattle.forms.specs.InnerForms.{Table, rowAt, lowRow, half, atPair, splitBy, mayUse, firstRow, secondRow, usable, someOn}
+use Rattle.free_tables.specs.InnerSearch.{allPass}
+use Rattle.forms.specs.InnerForms.{mayUse, firstRow, secondRow}
+use Rattle.free_tables.specs.InnerTables.{Table, rowAt, lowRow, half, atPair, splitBy, usable, someOn}
 use Rattle.forms.specs.declared.Row.{Row}
 use Rattle.forms.specs.declared.Form.{Form}
-use Rattle.forms.proofs.SearchLaws.{all-pass, pass-all}
+use Rattle.free_tables.proofs.SearchLaws.{all-pass, pass-all}
 use Rattle.builder.specs.InnerBuilding.{without}
 use Rattle.forms.proofs.TestLaws.{both}
 use Rattle.builder.proofs.WritingLaws.{before-length, without-length}

@@ -9,7 +9,7 @@ use lib.Dec.{eqb}
 use lib.ListN.{length, getD}
 use Rattle.tree.specs.Tree.{Operator, union, difference, Tree, size}
 use Rattle.tree.specs.Pass.{Entry, group, operator, neither, entryOf}
-use Rattle.forms.specs.InnerForms.{Table, firstPart, secondPart}
+use Rattle.free_tables.specs.InnerTables.{Table, firstPart, secondPart}
 use Rattle.forms.specs.declared.Form.{Form}
 use Rattle.forms.specs.declared.Form.the-variants.{Drop, Less, Plus, ReducedPlus, JoinedLess, LessOutside, ReducedUnion, JoinedDifference}
 use Rattle.splits.specs.InnerSplits.{firstHolder, secondHolder, splitTaken}

@@ -7,11 +7,11 @@ use Prim.Native.Nat.{ℕ, _/_, _^_, _<_, _≤_}
 use native.Mathlib.Omega.{arith}
 use lib.Dec.{ltb}
 use borrow.Author.Tests.{lt-ltb, le-ltb, ltb-true, ltb-false, not-false}
-use Rattle.forms.specs.InnerSearch.{firstFailing}
-use Rattle.forms.specs.InnerForms.{Table, half, firstPart, secondPart, usable}
+use Rattle.free_tables.specs.InnerSearch.{firstFailing}
+use Rattle.free_tables.specs.InnerTables.{Table, half, firstPart, secondPart, usable}
 use Rattle.forms.specs.declared.Form.{Form}
 use Rattle.forms.specs.declared.Form.the-variants.{Drop}
-use Rattle.forms.proofs.SearchLaws.{first-fails}
+use Rattle.free_tables.proofs.SearchLaws.{first-fails}
 use Rattle.splits.specs.InnerSplits.{formCount, formOf, allowedTop, firstTop, canHold, dropsInFirst, useBelow, useOf, candidateForm, candidateVariable, candidateUse, splitTakenBy, splitTaken}
 use Rattle.splits.specs.declared.Holder.{Holder}
 use Rattle.splits.specs.declared.Holder.the-variants.{Absent, Dropped, Held}

@@ -11,9 +11,9 @@ use lib.ListN.{length, getD, take, length-take}
 use Rattle.tree.specs.Tree.{Tree, postfix, sign, mostGroups}
 use Rattle.tree.specs.InnerWriting.{Wrote}
 use Rattle.tree.proofs.WritingLaws.{wrote-nothing, wrote-as}
-use Rattle.forms.specs.InnerForms.{Table, tableOf, half, firstPart, secondPart, Parted}
-use Rattle.forms.specs.declared.Half.{Half}
-use Rattle.forms.specs.declared.Parts.{Parts}
+use Rattle.free_tables.specs.InnerTables.{Table, tableOf, half, firstPart, secondPart, Parted}
+use Rattle.free_tables.specs.declared.Half.{Half}
+use Rattle.free_tables.specs.declared.Parts.{Parts}
 use Rattle.splits.specs.InnerSplits.{firstHolder, secondHolder, choose, Sized}
 use Rattle.splits.specs.declared.Holder.{Holder}
 use Rattle.splits.specs.declared.Split.{Split}

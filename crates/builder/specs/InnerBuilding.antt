@@ -10,7 +10,7 @@ use lib.ListN.{length, getD, take, drop}
 use Rattle.tree.specs.Tree.{Operator, union, difference, sign, Tree, leaf, node, isGroup, postfix, size, isIn, mostGroups}
 use Rattle.tree.specs.Pass.{Entry, group, operator, neither, entryOf}
 use Rattle.tree.specs.InnerWriting.{Wrote}
-use Rattle.forms.specs.InnerForms.{Table, tableOf, half, rowAt, firstPart, secondPart, usable, Holds}
+use Rattle.free_tables.specs.InnerTables.{Table, tableOf, half, rowAt, firstPart, secondPart, usable, Holds}
 use Rattle.forms.specs.declared.Form.{Form}
 use Rattle.forms.specs.declared.Form.the-variants.{Drop, Less, Plus, ReducedPlus, JoinedLess, LessOutside, ReducedUnion, JoinedDifference}
 use Rattle.splits.specs.InnerSplits.{canHold, firstHolder, secondHolder, splitTaken, choose}

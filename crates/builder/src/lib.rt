@@ -6,10 +6,10 @@ ghost use lib.Dec.{eqb};
 ghost use lib.ListN.{length, take};
 ghost use Rattle.tree.specs.Tree.{sign, mostGroups};
 ghost use Rattle.tree.specs.InnerWriting.{Wrote};
-ghost use Rattle.forms.specs.InnerForms.{tableOf};
+ghost use Rattle.free_tables.specs.InnerTables.{tableOf};
 ghost use Rattle.builder.specs.InnerBuilding.{outer, without, mostFor, Ready, Turned, Holding, Built, between, variableList, joinedBy, leftSign, rightKind, leftWritten, endsThere, beforeWritten, afterWritten};
 use forms::Form;
-use forms::Half;
+use free_tables::Half;
 use splits::Holder;
 use tree::MOST_GROUPS;
 
@@ -217,8 +217,8 @@ fn turn_of(on: &[bool], off: &[bool], m: Holder, groups: &[u16], n: usize) -> Tu
     let form = split.form;
     let v = split.variable;
     let plan = split.plan;
-    let power = forms::power(v);
-    let parts = forms::split(on, off, power, form);
+    let power = free_tables::power(v);
+    let parts = free_tables::split(on, off, power, form);
     let first = parts.first;
     let second = parts.second;
     Turn {

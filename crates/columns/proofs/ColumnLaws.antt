@@ -15,8 +15,8 @@ use Rattle.tree.specs.Tree.{union, difference, sign, Tree, isGroup, postfix, mo
 use Rattle.tree.specs.InnerWriting.{Wrote}
 use Rattle.tree.proofs.WritingLaws.{wrote-then, wrote-as, wrote-take}
 use Rattle.table.specs.InnerTable.{rowCount}
-use Rattle.forms.specs.InnerForms.{tableOf}
-use Rattle.forms.proofs.SplitLaws.{Filled, filled-none, filled-more, filled-all}
+use Rattle.free_tables.specs.InnerTables.{tableOf}
+use Rattle.free_tables.proofs.SplitLaws.{Filled, filled-none, filled-more, filled-all}
 use Rattle.splits.specs.InnerSplits.{choose}
 use Rattle.splits.specs.declared.Holder.the-variants.{Absent, Held}
 use Rattle.builder.specs.InnerBuilding.{postfixOptional, join, single, build, mostBuilt, mostFor, Ready, between, Holding}

@@ -7,7 +7,7 @@ use Prim.Native.Nat.{ℕ, _+_, _*_, _^_, _<_, _≤_}
 use lib.ListN.{length, take}
 use Rattle.tree.specs.Tree.{Tree, isGroup, isIn}
 use Rattle.table.specs.InnerTable.{rowCount, tabulate, rowsOf}
-use Rattle.forms.specs.InnerForms.{Table, tableOf}
+use Rattle.free_tables.specs.InnerTables.{Table, tableOf}
 use Rattle.splits.specs.declared.Holder.{Holder}
 use Rattle.splits.specs.declared.Holder.the-variants.{Absent, Held}
 use Rattle.builder.specs.InnerBuilding.{postfixOptional, mostBuilt, Ready, Built}

@@ -2,7 +2,7 @@
 use mathlib.Core.Bool.{Bool, cond, Bool·beq, _&&_, _||_}
 use Prim.Native.Nat.{ℕ, _+_, _-_, _%_}
 use lib.Dec.{ltb}
-use Rattle.forms.specs.InnerSearch.{firstFailing}
+use Rattle.free_tables.specs.InnerSearch.{firstFailing}
 use Rattle.columns.specs.declared.Choice.{Choice}
 use Rattle.columns.specs.declared.Choice.the-variants.{Never, Constant, Columns}
 

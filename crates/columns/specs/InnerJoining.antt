@@ -8,7 +8,7 @@ use lib.Dec.{ltb}
 use lib.ListN.{length, getD}
 use Rattle.tree.specs.Tree.{union, difference, Tree}
 use Rattle.table.specs.InnerTable.{tabulate}
-use Rattle.forms.specs.InnerForms.{Table}
+use Rattle.free_tables.specs.InnerTables.{Table}
 use Rattle.splits.specs.InnerSplits.{choose}
 use Rattle.splits.specs.declared.Holder.the-variants.{Absent, Held}
 use Rattle.builder.specs.InnerBuilding.{join, single, build}

@@ -1,5 +1,4 @@
--- The laws of the definitions in specs/, for this crate and those above it.
-pub mod SearchLaws
+-- The laws of the forms.
 pub mod TestLaws
 pub mod FormLaws
-pub mod SplitLaws
+pub mod HolderLaws

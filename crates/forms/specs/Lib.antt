@@ -1,2 +1,1 @@
-pub mod InnerSearch
 pub mod InnerForms

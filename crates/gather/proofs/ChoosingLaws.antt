@@ -16,7 +16,7 @@ use Rattle.tree.specs.Tree.{union, difference, Tree, leaf, node, isGroup, size,
 use Rattle.tree.proofs.TreeLaws.{or-false, is-in-append, or-cases, in-left, in-right, selects-equivalent}
 use Rattle.table.specs.InnerTable.{filling}
 use Rattle.table.proofs.TableLaws.{rowOf, Tabled, row-below, row-append, row-agree, row-filling, selects-row, value-zero}
-use Rattle.forms.proofs.SearchLaws.{Fails, first-fails}
+use Rattle.free_tables.proofs.SearchLaws.{Fails, first-fails}
 use Rattle.splits.specs.InnerSplits.{choose, canHold}
 use Rattle.builder.specs.InnerBuilding.{join, single, variableTree, build, Buildable}
 use Rattle.builder.proofs.JoinLaws.{selectsOptional, OverOptional, join-selects, join-over, single-leaf, single-over, group-holds}

@@ -11,7 +11,7 @@ use lib.Seq.{getD-at}
 use Rattle.tree.specs.Tree.{Operator, union, difference, Tree, node, isGroup, isIn}
 use Rattle.tree.specs.InnerGroups.{Distinct}
 use Rattle.table.specs.InnerTable.{tabulate}
-use Rattle.forms.specs.InnerForms.{Table, half, lowRow, firstPart, secondPart, usable, someOn}
+use Rattle.free_tables.specs.InnerTables.{Table, half, lowRow, firstPart, secondPart, usable, someOn}
 use Rattle.forms.specs.declared.Form.{Form}
 use Rattle.forms.specs.declared.Form.the-variants.{Drop, Less, Plus, ReducedPlus, JoinedLess, LessOutside, ReducedUnion, JoinedDifference}
 use Rattle.splits.specs.InnerSplits.{keepsHolder, allowedTop, dropsInFirst, firstHolder, secondHolder, splitTaken}

@@ -12,7 +12,8 @@ use borrow.Author.Tests.{lt-ltb, le-ltb, ltb-true, ltb-false}
 use lib.ListN.{length, length-append, List·getD-eq-default}
 use Rattle.tree.specs.Tree.{Tree, isGroup, isIn}
 use Rattle.table.proofs.TableLaws.{rowOf, row-below, row-agree, row-append, tabulate-at, length-tabulate}
-use Rattle.forms.specs.InnerForms.{Table, rowAt, lowRow, half, atPair, mayUse, firstRow, secondRow, firstPart, secondPart, usable, someOn}
+use Rattle.forms.specs.InnerForms.{mayUse, firstRow, secondRow}
+use Rattle.free_tables.specs.InnerTables.{Table, rowAt, lowRow, half, atPair, firstPart, secondPart, usable, someOn}
 use Rattle.forms.specs.declared.Row.{Row}
 use Rattle.forms.specs.declared.Form.{Form}
 use Rattle.forms.specs.declared.Form.the-variants.{Less, Plus, LessOutside}

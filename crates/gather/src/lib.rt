@@ -19,7 +19,7 @@ use columns::Choice;
 use columns::build_columns;
 use columns::build_constant;
 use columns::choose;
-use forms::power;
+use free_tables::power;
 use holding::Status;
 use holding::holding;
 use table::ROWS;

@@ -14,11 +14,11 @@ use borrow.Author.Tests.{ltb-true, lt-ltb, le-ltb, eq-eqb, ne-eqb}
 use Rattle.tree.specs.Tree.{mostGroups}
 use Rattle.table.specs.InnerTable.{tabulate}
 use Rattle.table.proofs.TableLaws.{length-tabulate}
-use Rattle.forms.specs.InnerSearch.{firstFailing}
-use Rattle.forms.specs.InnerForms.{Table, half, firstPart, secondPart, usable, Splits, Parted, tableOf}
+use Rattle.free_tables.specs.InnerSearch.{firstFailing}
+use Rattle.free_tables.specs.InnerTables.{Table, half, firstPart, secondPart, usable, Splits, Parted, tableOf}
 use Rattle.forms.specs.declared.Form.{Form}
 use Rattle.forms.specs.declared.Form.the-variants.{Drop, Less, Plus, ReducedPlus, JoinedLess, LessOutside, ReducedUnion, JoinedDifference}
-use Rattle.forms.specs.declared.Parts.{Parts}
+use Rattle.free_tables.specs.declared.Parts.{Parts}
 use Rattle.splits.specs.InnerSplits.{formCount, formOf, isDrop, allowedTop, firstTop, useBelow, useOf, firstHolder, secondHolder, leavesBy, estimate, costBy, never, candidateForm, candidateVariable, candidateUse, cost, least, choose, splitTakenBy, splitTaken, Sized}
 use Rattle.splits.specs.declared.Holder.{Holder}
 use Rattle.splits.specs.declared.Holder.the-variants.{Absent, Dropped, Held}

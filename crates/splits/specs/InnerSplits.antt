@@ -8,8 +8,9 @@ use Prim.Native.Nat.{ℕ, zero, suc, _+_, _*_, _/_, _%_, _^_, _≤_}
 use lib.Dec.{eqb, ltb}
 use lib.ListN.{length}
 use Rattle.tree.specs.Tree.{mostGroups}
-use Rattle.forms.specs.InnerSearch.{firstFailing}
-use Rattle.forms.specs.InnerForms.{Table, half, firstPart, secondPart, usable, someOn}
+use Rattle.forms.specs.InnerForms.{keepsBy}
+use Rattle.free_tables.specs.InnerSearch.{firstFailing}
+use Rattle.free_tables.specs.InnerTables.{Table, half, firstPart, secondPart, usable, someOn}
 use Rattle.forms.specs.declared.Form.{Form}
 use Rattle.forms.specs.declared.Form.the-variants.{Drop, Less, Plus, ReducedPlus, JoinedLess, LessOutside, ReducedUnion, JoinedDifference}
 use Rattle.splits.specs.declared.Holder.{Holder}
@@ -43,18 +44,7 @@ isDrop ReducedUnion = false
 isDrop JoinedDifference = false
 
 -- ---- the highest variable, whose step is half the table's rows
--- whether the form has the holder's tree once, and no left operand of a difference above it is empty: a is some tree, and b
-abbrev pub keepsBy : Form → Bool → Bool → Bool
-keepsBy Drop a b = false
-keepsBy Less a b = a
-keepsBy Plus a b = true
-keepsBy ReducedPlus a b = false
-keepsBy JoinedLess a b = false
-keepsBy LessOutside a b = a && b
-keepsBy ReducedUnion a b = a
-keepsBy JoinedDifference a b = true
-
--- the same at the highest variable, the holder's
+-- whether the form keeps the holder, at the highest variable, which is the holder's
 abbrev pub keepsHolder : Form → Table → Bool
 keepsHolder form t = keepsBy form (someOn (firstPart form t (half t))) (someOn (secondPart form t (half t)))
 

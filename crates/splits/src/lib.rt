@@ -1,8 +1,9 @@
 // Which variable a table is split by, and by which form.
 ghost use mathlib.Core.Path.{_≡_};
 ghost use Prim.Native.Nat.{ℕ, suc, _^_, _≤_};
-ghost use Rattle.forms.specs.InnerForms.{tableOf};
-ghost use Rattle.splits.specs.InnerSplits.{formOf, isDrop, keepsBy, keepsHolder, allowedTop, firstTop, canHold, startsWithFirst, dropsInFirst, besideUse, splitUse, useBelow, useOf, firstHolder, secondHolder, leavesBy, estimate, costBy, never, candidateVariable, candidateUse, cost, choose, splitTaken, Sized};
+ghost use Rattle.free_tables.specs.InnerTables.{tableOf};
+ghost use Rattle.forms.specs.InnerForms.{keepsBy};
+ghost use Rattle.splits.specs.InnerSplits.{formOf, isDrop, keepsHolder, allowedTop, firstTop, canHold, startsWithFirst, dropsInFirst, besideUse, splitUse, useBelow, useOf, firstHolder, secondHolder, leavesBy, estimate, costBy, never, candidateVariable, candidateUse, cost, choose, splitTaken, Sized};
 ghost use Rattle.splits.specs.declared.Use.the-variants.{No};
 use forms::Form;
 
@@ -116,13 +117,13 @@ fn keeps_holder(on: &[bool], off: &[bool], form: Form) -> bool
     ensures { λ r. ⌜ r ≡ keepsHolder form (tableOf (now (on .entry)) (now (off .entry))) ⌝ }
 {
     let count = on.len() / 2;
-    let parts = forms::split(on, off, count, form);
+    let parts = free_tables::split(on, off, count, form);
     let first = parts.first;
     let second = parts.second;
     let first_on = first.on;
     let second_on = second.on;
-    let a = forms::some_on(&first_on[..count]);
-    let b = forms::some_on(&second_on[..count]);
+    let a = free_tables::some_on(&first_on[..count]);
+    let b = free_tables::some_on(&second_on[..count]);
     keeps_by(form, a, b)
 }
 
@@ -131,7 +132,7 @@ fn allowed_top(on: &[bool], off: &[bool], form: Form, m: Holder) -> bool
     requires { ⌜ ((n : ℕ) × Sized (now on) (now off) (suc n)) ⌝ }
     ensures { λ r. ⌜ r ≡ allowedTop m form (tableOf (now (on .entry)) (now (off .entry))) ⌝ }
 {
-    let good = forms::usable(on, off, on.len() / 2, form);
+    let good = free_tables::usable(on, off, on.len() / 2, form);
     if good {
         return match m {
             Holder::Absent => true,
@@ -174,11 +175,11 @@ fn drops_in_first(on: &[bool], off: &[bool], form: Form) -> bool
     ensures { λ r. ⌜ r ≡ dropsInFirst form (tableOf (now (on .entry)) (now (off .entry))) ⌝ }
 {
     let count = on.len() / 2;
-    let good = forms::usable(on, off, count, Form::Drop);
-    let parts = forms::split(on, off, count, Form::Drop);
+    let good = free_tables::usable(on, off, count, Form::Drop);
+    let parts = free_tables::split(on, off, count, Form::Drop);
     let first = parts.first;
     let first_on = first.on;
-    let some = forms::some_on(&first_on[..count]);
+    let some = free_tables::some_on(&first_on[..count]);
     let starts = starts_with_first(form);
     good & (!starts | some)
 }
@@ -188,7 +189,7 @@ fn beside_use(aon: &[bool], aoff: &[bool], bon: &[bool], boff: &[bool], form: Fo
     requires { ⌜ ((n : ℕ) × Sized (now aon) (now aoff) (suc n) × Sized (now bon) (now boff) (suc n)) ⌝ }
     ensures { λ r. ⌜ r ≡ besideUse form (tableOf (now (aon .entry)) (now (aoff .entry))) (tableOf (now (bon .entry)) (now (boff .entry))) ⌝ }
 {
-    let drops = forms::usable(bon, boff, bon.len() / 2, Form::Drop);
+    let drops = free_tables::usable(bon, boff, bon.len() / 2, Form::Drop);
     if drops {
         let holds = can_hold(aon, aoff);
         if holds {
@@ -212,8 +213,8 @@ fn split_beside(on: &[bool], off: &[bool], form: Form, v: usize) -> Use
     ensures { λ r. ⌜ r ≡ splitUse form (tableOf (now (on .entry)) (now (off .entry))) (2 ^ v) ⌝ }
 {
     let count = on.len() / 2;
-    let step = forms::power(v);
-    let parts = forms::split(on, off, step, form);
+    let step = free_tables::power(v);
+    let parts = free_tables::split(on, off, step, form);
     let first = parts.first;
     let second = parts.second;
     let a_on = first.on;
@@ -234,8 +235,8 @@ fn use_below(on: &[bool], off: &[bool], form: Form, m: Holder, v: usize) -> Use
     requires { ⌜ ((n : ℕ) × Sized (now on) (now off) (suc (suc n)) × (v ≤ n)) ⌝ }
     ensures { λ r. ⌜ r ≡ useBelow m form (tableOf (now (on .entry)) (now (off .entry))) (2 ^ v) ⌝ }
 {
-    let step = forms::power(v);
-    let good = forms::usable(on, off, step, form);
+    let step = free_tables::power(v);
+    let good = free_tables::usable(on, off, step, form);
     if good {
         return match m {
             Holder::Absent => Use::Plain,
@@ -350,7 +351,7 @@ fn estimate(on: &[bool], off: &[bool], k: usize, m: Holder) -> usize
     let i = first_top(on, off, m);
     let form = form_of(i);
     let count = on.len() / 2;
-    let parts = forms::split(on, off, count, form);
+    let parts = free_tables::split(on, off, count, form);
     let first = parts.first;
     let a_on = first.on;
     let a_off = first.off;
@@ -373,8 +374,8 @@ fn leaves_after(on: &[bool], off: &[bool], n: usize, form: Form, v: usize, plan:
     ensures { λ r. ⌜ r ≡ costBy plan form (tableOf (now (on .entry)) (now (off .entry))) n (2 ^ v) ⌝ }
 {
     let count = on.len() / 2;
-    let step = forms::power(v);
-    let parts = forms::split(on, off, step, form);
+    let step = free_tables::power(v);
+    let parts = free_tables::split(on, off, step, form);
     let first = parts.first;
     let a_on = first.on;
     let a_off = first.off;

@@ -4,7 +4,7 @@ use Prim.Native.Nat.{ℕ, suc, _-_, _<_}
 use native.Mathlib.Omega.{arith}
 use lib.ListN.{length}
 use denote.Ref.{now}
-use Rattle.forms.specs.InnerForms.{tableOf}
+use Rattle.free_tables.specs.InnerTables.{tableOf}
 use Rattle.builder.proofs.TurnLaws.{Begun, Passed, given-a, given-b, call-a, left-need, left-same, built-left, before-need, call-b, after-need, operate-need, all-same, built-all, built-none}
 use borrow.Fn.Kinds.{In}
 use borrow.Fn.PlainCycle.{Measures, is, falls, and}

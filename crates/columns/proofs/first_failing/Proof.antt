@@ -3,8 +3,8 @@ use Prim.Native.Nat.{_≤_, _-_}
 use native.Mathlib.Omega.{arith}
 use Rattle.columns.specs.InnerChoosing.{agrees}
 use Rattle.table.specs.InnerTable.{rowsOf}
-use Rattle.forms.specs.InnerSearch.{firstFailing}
-use Rattle.forms.proofs.SearchLaws.{failing-turn, failing-stop, failing-end, failing-start}
+use Rattle.free_tables.specs.InnerSearch.{firstFailing}
+use Rattle.free_tables.proofs.SearchLaws.{failing-turn, failing-stop, failing-end, failing-start}
 use Rattle.columns.proofs.ColumnLaws.{agrees-inside}
 use Rattle.columns.proofs.first_failing.Statement.{statement}
 use Rattle.columns.proofs.first_failing.Tie as tie

@@ -3,7 +3,7 @@ use mathlib.Core.Path.{sym, ap, _∙_}
 use Prim.Native.Nat.{ℕ, suc, _-_, _<_}
 use native.Mathlib.Omega.{arith}
 use denote.Ref.{now}
-use Rattle.forms.specs.InnerForms.{tableOf}
+use Rattle.free_tables.specs.InnerTables.{tableOf}
 use Rattle.splits.specs.InnerSplits.{formOf, Sized}
 use Rattle.splits.specs.InnerSplits as inner
 use Rattle.splits.specs.declared.Holder.the-variants.{Absent}
@@ -13,7 +13,7 @@ use borrow.Fn.PlainCycle.{Measures, is, falls, and}
 use Rattle.splits.proofs.estimate.Reads as estimate
 use Rattle.splits.proofs.estimate.Kinds as estimate-kinds
 use Rattle.splits.proofs.+estimate.Lts-estimate as estimate-lts
-use Rattle.forms.proofs.split.Reads as split-reads
+use Rattle.free_tables.proofs.split.Reads as split-reads
 use Rattle.splits.proofs.estimate_one.Reads as estimate-one-reads
 use Rattle.splits.proofs.first_top.Reads as first-top-reads
 use Rattle.splits.proofs.form_of.Reads as form-of-reads

@@ -2,7 +2,7 @@ use mathlib.Core.Path.{_≡_}
 use Prim.Native.Nat.{_+_, _*_, _-_, _≤_}
 use native.Mathlib.Omega.{arith}
 use Rattle.splits.specs.InnerSplits as inner
-use Rattle.forms.specs.InnerForms.{tableOf}
+use Rattle.free_tables.specs.InnerTables.{tableOf}
 use Rattle.splits.specs.InnerSplits.{formCount, cost}
 use Rattle.splits.proofs.SplitLaws.{below-most, least-start, least-new, least-old, choose-is}
 use Rattle.splits.proofs.choose.Statement.{statement}

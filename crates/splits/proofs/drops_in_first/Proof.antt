@@ -1,5 +1,5 @@
 use mathlib.Core.Path.{ap, _∙_}
-use Rattle.forms.specs.InnerForms.{someOn}
+use Rattle.free_tables.specs.InnerTables.{someOn}
 use Rattle.splits.proofs.SplitLaws.{splits-top, part-first}
 use borrow.Author.Needs.{needs}
 use Rattle.splits.proofs.drops_in_first.Statement.{statement}

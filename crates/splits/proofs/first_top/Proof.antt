@@ -1,9 +1,9 @@
 use mathlib.Core.Path.{_≡_, sym, _∙_}
 use Prim.Native.Nat.{_≤_, _-_}
 use native.Mathlib.Omega.{arith}
-use Rattle.forms.specs.InnerSearch.{firstFailing}
-use Rattle.forms.proofs.SearchLaws.{failing-turn, failing-stop, failing-end}
-use Rattle.forms.specs.InnerForms.{tableOf}
+use Rattle.free_tables.specs.InnerSearch.{firstFailing}
+use Rattle.free_tables.proofs.SearchLaws.{failing-turn, failing-stop, failing-end}
+use Rattle.free_tables.specs.InnerTables.{tableOf}
 use Rattle.splits.specs.InnerSplits.{formCount, firstTop}
 use Rattle.splits.proofs.SplitLaws.{refused, top-start, refused-is}
 use Rattle.splits.proofs.first_top.Statement.{statement}

@@ -1,6 +1,6 @@
 use mathlib.Core.Path.{ap, ap₂, _∙_}
-use Rattle.forms.specs.InnerForms.{someOn}
-use Rattle.splits.specs.InnerSplits.{keepsBy}
+use Rattle.free_tables.specs.InnerTables.{someOn}
+use Rattle.forms.specs.InnerForms.{keepsBy}
 use Rattle.splits.proofs.SplitLaws.{splits-top, part-first, part-second}
 use borrow.Author.Needs.{needs}
 use Rattle.splits.proofs.keeps_holder.Statement.{statement}

@@ -2,12 +2,13 @@ use mathlib.Core.Path.{_≡_, sym, _∙_}
 use Prim.Native.Nat.{_≤_, _-_, _%_}
 use native.Mathlib.Nat.{zero-mod}
 use native.Mathlib.Omega.{arith}
-use Rattle.forms.specs.InnerSearch.{firstFailing}
-use Rattle.forms.specs.InnerForms.{mayUse, atPair}
-use Rattle.forms.proofs.SearchLaws.{failing-turn, failing-stop, failing-end, failing-start}
-use Rattle.forms.proofs.SplitLaws.{place-turn, place-below, place-row, pair-inside, pair-rule}
-use Rattle.forms.proofs.first_unusable.Statement.{statement}
-use Rattle.forms.proofs.first_unusable.Tie as tie
+use Rattle.free_tables.specs.InnerSearch.{firstFailing}
+use Rattle.forms.specs.InnerForms.{mayUse}
+use Rattle.free_tables.specs.InnerTables.{atPair}
+use Rattle.free_tables.proofs.SearchLaws.{failing-turn, failing-stop, failing-end, failing-start}
+use Rattle.free_tables.proofs.SplitLaws.{place-turn, place-below, place-row, pair-inside, pair-rule}
+use Rattle.free_tables.proofs.first_unusable.Statement.{statement}
+use Rattle.free_tables.proofs.first_unusable.Tie as tie
 
 abbrev Inv-loop : tie.InvT-loop
 Inv-loop on off step form count r₀ k₀ r k =

@@ -1,9 +1,9 @@
 use mathlib.Core.Path.{_≡_, refl, ap, _∙_}
 use Prim.Native.Nat.{_≤_, _-_, _^_}
 use native.Mathlib.Omega.{arith}
-use Rattle.forms.proofs.SplitLaws.{power-turn, power-small}
-use Rattle.forms.proofs.power.Statement.{statement}
-use Rattle.forms.proofs.power.Tie as tie
+use Rattle.free_tables.proofs.SplitLaws.{power-turn, power-small}
+use Rattle.free_tables.proofs.power.Statement.{statement}
+use Rattle.free_tables.proofs.power.Tie as tie
 
 abbrev Inv-loop : tie.InvT-loop
 Inv-loop k s₀ i₀ s i = (i ≤ k) × (s ≡ 2 ^ i)

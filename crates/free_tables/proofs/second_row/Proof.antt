@@ -1,6 +1,6 @@
 use borrow.Author.Needs.{needs}
-use Rattle.forms.proofs.second_row.Statement.{statement}
-use Rattle.forms.proofs.second_row.Tie as tie
+use Rattle.free_tables.proofs.second_row.Statement.{statement}
+use Rattle.free_tables.proofs.second_row.Tie as tie
 
 enum-told : tie.Need-enum-told
 enum-told c = search needs

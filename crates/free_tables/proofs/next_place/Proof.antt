@@ -1,7 +1,7 @@
 use borrow.Author.Needs.{needs}
-use Rattle.forms.proofs.SplitLaws.{place-end, place-on}
-use Rattle.forms.proofs.next_place.Statement.{statement}
-use Rattle.forms.proofs.next_place.Tie as tie
+use Rattle.free_tables.proofs.SplitLaws.{place-end, place-on}
+use Rattle.free_tables.proofs.next_place.Statement.{statement}
+use Rattle.free_tables.proofs.next_place.Tie as tie
 
 add-if1 : tie.Need-add-if1
 add-if1 c = search needs

@@ -8,7 +8,7 @@ use native.Mathlib.Omega.{arith}
 use native.Mathlib.Numerals.{add-one}
 use lib.Dec.{eqb}
 use borrow.Author.Tests.{eqb-true, eqb-false}
-use Rattle.forms.specs.InnerSearch.{firstFailing, allPass}
+use Rattle.free_tables.specs.InnerSearch.{firstFailing, allPass}
 
 pub record Fails (f : ℕ → Bool) (k i j : ℕ) : Type 0 where
   pub from : i ≤ j

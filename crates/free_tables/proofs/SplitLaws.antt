@@ -15,10 +15,11 @@ use borrow.Author.Tests.{eq-eqb, ne-eqb}
 use Rattle.tree.specs.Tree.{mostGroups}
 use Rattle.table.specs.InnerTable.{rowCount, tabulate}
 use Rattle.table.proofs.TableLaws.{length-tabulate, tabulate-at}
-use Rattle.forms.specs.InnerSearch.{firstFailing}
-use Rattle.forms.specs.InnerForms.{mayUse, firstRow, secondRow, Table, rowAt, half, atPair, firstPart, secondPart, usable, someOn, Splits, Holds}
+use Rattle.free_tables.specs.InnerSearch.{firstFailing}
+use Rattle.forms.specs.InnerForms.{mayUse, firstRow, secondRow}
+use Rattle.free_tables.specs.InnerTables.{Table, rowAt, half, atPair, firstPart, secondPart, usable, someOn, Splits, Holds}
 use Rattle.forms.specs.declared.Row.{Row}
 use Rattle.forms.specs.declared.Form.{Form}
 
 -- ---- powers
 pub power-turn : (s i : ℕ) → s ≡ 2 ^ i → s + s ≡ 2 ^ (i + 1)

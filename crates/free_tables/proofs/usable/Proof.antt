@@ -2,9 +2,9 @@ use mathlib.Core.Path.{sym}
 use native.Mathlib.Nat.{zero-mod, mul-pos}
 use native.Mathlib.Omega.{arith}
 use borrow.Author.Needs.{needs}
-use Rattle.forms.proofs.SplitLaws.{pair-inside, usable-says}
-use Rattle.forms.proofs.usable.Statement.{statement}
-use Rattle.forms.proofs.usable.Tie as tie
+use Rattle.free_tables.proofs.SplitLaws.{pair-inside, usable-says}
+use Rattle.free_tables.proofs.usable.Statement.{statement}
+use Rattle.free_tables.proofs.usable.Tie as tie
 
 first-unusable-requires : tie.Need-first-unusable-requires
 first-unusable-requires c κs = search needs

@@ -2,10 +2,10 @@ use mathlib.Core.Path.{_≡_, refl, sym, _∙_}
 use Prim.Native.Nat.{_<_, _≤_, _-_, _%_}
 use native.Mathlib.Nat.{zero-mod}
 use native.Mathlib.Omega.{arith}
 use Rattle.forms.specs.InnerForms.{firstRow, secondRow}
-use Rattle.forms.proofs.SplitLaws.{place-turn, place-below, place-row, pair-inside, pair-rule, FilledBy, filled-start, filled-turn, first-held, second-held}
-use Rattle.forms.proofs.split.Statement.{statement}
-use Rattle.forms.proofs.split.Tie as tie
+use Rattle.free_tables.proofs.SplitLaws.{place-turn, place-below, place-row, pair-inside, pair-rule, FilledBy, filled-start, filled-turn, first-held, second-held}
+use Rattle.free_tables.proofs.split.Statement.{statement}
+use Rattle.free_tables.proofs.split.Tie as tie
 
 abbrev Inv-loop : tie.InvT-loop
 Inv-loop on off step form a-on₀ a-off₀ b-on₀ b-off₀ count r₀ k₀ a-on a-off b-on b-off r k =

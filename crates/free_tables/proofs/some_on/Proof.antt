@@ -3,11 +3,11 @@ use mathlib.Core.Bool.{not}
 use Prim.Native.Nat.{_≤_, _-_}
 use native.Mathlib.Omega.{arith}
 use lib.ListN.{length}
-use Rattle.forms.specs.InnerSearch.{firstFailing}
-use Rattle.forms.proofs.SearchLaws.{failing-turn, failing-stop, failing-end, failing-start}
-use Rattle.forms.proofs.SplitLaws.{dark, some-here, some-none}
-use Rattle.forms.proofs.some_on.Statement.{statement}
-use Rattle.forms.proofs.some_on.Tie as tie
+use Rattle.free_tables.specs.InnerSearch.{firstFailing}
+use Rattle.free_tables.proofs.SearchLaws.{failing-turn, failing-stop, failing-end, failing-start}
+use Rattle.free_tables.proofs.SplitLaws.{dark, some-here, some-none}
+use Rattle.free_tables.proofs.some_on.Statement.{statement}
+use Rattle.free_tables.proofs.some_on.Tie as tie
 
 abbrev Inv-loop : tie.InvT-loop
 Inv-loop on i₀ i = (i ≤ length on) × (firstFailing (dark on) (length on - i) i ≡ firstFailing (dark on) (length on) 0)

@@ -1,6 +1,6 @@
 use borrow.Author.Needs.{needs}
-use Rattle.forms.proofs.may_use.Statement.{statement}
-use Rattle.forms.proofs.may_use.Tie as tie
+use Rattle.free_tables.proofs.may_use.Statement.{statement}
+use Rattle.free_tables.proofs.may_use.Tie as tie
 
 enum-told : tie.Need-enum-told
 enum-told c = search needs

@@ -1,0 +1,3 @@
+-- The laws of the definitions in specs/, for this crate and those above it.
+pub mod SearchLaws
+pub mod SplitLaws

@@ -1,0 +1,2 @@
+pub mod InnerSearch
+pub mod InnerTables
