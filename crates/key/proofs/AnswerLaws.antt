@@ -1,26 +1,22 @@
 -- The key of a sheet that reading accepts, put together: its lifts, then what follows them.
 use mathlib.Core.Path.{_≡_, refl, sym, ap, subst, _∙_}
-use mathlib.Core.Bool.{Bool, true, false, cond}
 use mathlib.Core.List.{List, [], _∷_, _++_, append-nil}
 use mathlib.Core.Option.{Option, some}
 use Prim.Native.Nat.{ℕ, _*_, _≤_, _<_}
 use native.Mathlib.Omega.{arith}
-use borrow.Author.Tests.{ltb-false}
-use lib.Dec.{ltb}
-use lib.ListN.{length, take, drop, replicate, length-append}
+use lib.ListN.{length, take}
 use Rattle.common.specs.Answer.{done}
-use Rattle.tree.specs.Tree.{Tree, postfix, size, mostNodes, mostGroups}
+use Rattle.tree.specs.Tree.{Tree, postfix, size, mostNodes}
 use Rattle.tree.specs.Writing.{over}
 use Rattle.tree.specs.InnerWriting.{Wrote}
 use Rattle.tree.proofs.WritingLaws.{wrote-then, wrote-as, wrote-over, take-over}
 use Rattle.tree.proofs.TreeLaws.{postfix-length}
 use Rattle.tree.proofs.GroupLaws.{groups-leaves}
-use Rattle.text.specs.Parts.{split}
-use Rattle.text.specs.Line.{line, lines, lineFeed}
+use Rattle.text.specs.Line.{line, lines}
 use Rattle.text.proofs.LineLaws.{lines-append}
-use Rattle.sheet.specs.Reading.{mostBytes, mostSheetNodes, ReadingState, ReadingOutcome, accepted, refused, nothingRead, readLines, readWithin, reading, sheetOf}
+use Rattle.sheet.specs.Reading.{ReadingState, ReadingOutcome, accepted, refused, reading, sheetOf}
 use Rattle.sheet.specs.declared.Sheet.{Sheet}
-use Rattle.sheet.proofs.AcceptedLaws.{accepted-sheet, answered-tree, answered-marks, number-accepted, number-refused, Accepted}
+use Rattle.sheet.proofs.AcceptedLaws.{accepted-sheet, accepted-short, answered-tree, answered-marks, answered-long, number-accepted, number-refused, Accepted}
 use Rattle.printing.specs.Key.{NO, text, liftRows, heldRows, instructionRows}
 use Rattle.lift_lines.specs.Lifting.{treeAfter, liftAnswers}
 use Rattle.key.specs.Call.{keyBytes, KeyOf, keySays, KeyCall}
@@ -35,16 +31,7 @@ use Rattle.lift_lines.proofs.LiftingLaws.{after-keeps}
 use Rattle.key.proofs.GatheringLaws.{markable-keeps}
 use Rattle.key.proofs.DemandLaws.{demand-3}
 
--- a sheet that is accepted is within the limit
-accepted-short : (s : List ℕ) (st : ReadingState) → reading s ≡ accepted st → length s ≤ mostBytes
-unfolding readWithin
-accepted-short s st e = go (ltb mostBytes (length s)) refl e
-  where
-    go : (b : Bool) → ltb mostBytes (length s) ≡ b → cond b (refused 1 0) (readLines mostSheetNodes nothingRead 0 0 (split lineFeed s)) ≡ accepted st → length s ≤ mostBytes
-    go true q e = absurd (let z : _≡_ {A = ℕ} 0 1 = cc in omega arith)
-    go false q e = ltb-false mostBytes (length s) q
-
-module _ (s : List ℕ) (st : ReadingState) (e : reading s ≡ accepted st) (A : Accepted mostSheetNodes s st) where
+module _ (s : List ℕ) (st : ReadingState) (e : reading s ≡ accepted st) (A : Accepted s st) where
   -- at most 10,000 lifts
   pub few-lifts : liftBytes * length (st .lifts) ≤ 200000
   few-lifts = omega (arith, lifts-few s (st .start) (st .lifts) (A .end) (A .asked), accepted-short s st e)
@@ -59,11 +46,8 @@ module _ (s : List ℕ) (st : ReadingState) (e : reading s ≡ accepted st) (A :
     among = λ g k. groups-leaves (A .tree) g ∙ A .marked g k;
   }
 
-  within : mostSheetNodes ≤ mostNodes
-  within = omega arith
-
   pub marks-left : Markable (treeAfter (A .tree) (st .lifts)) (st .marks)
-  marks-left = markable-keeps (after-keeps (A .tree) (st .lifts) (omega (arith, A .nodes))) marks-in
+  marks-left = markable-keeps (after-keeps (A .tree) (st .lifts) (A .nodes)) marks-in
 
   -- the lifts' lines, then the rest
   pub answered : {tree′ out out₁ out₂ : List ℕ} {r : Progress} {next : ℕ} → LiftedAll (A .tree) (st .lifts) tree′ r out out₁
@@ -74,7 +58,7 @@ module _ (s : List ℕ) (st : ReadingState) (e : reading s ≡ accepted st) (A :
       let is = codeBy u (st .marks) in
       record {
         answers = subst (λ (o : Option Tree). KeyOf (accepted st) (keyIn st o)) (sym (A .is))
-            (A .tree, A .is, demand-3 (A .tree) (st .marks) (st .lifts) (omega (arith, A .nodes)) held is (F .ends));
+            (A .tree, A .is, demand-3 (A .tree) (st .marks) (st .lifts) (A .nodes) held is (F .ends));
         wrote = wrote-as (wrote-then (L .wrote) (F .wrote))
             (unfold text keyBy in sym (lines-append (liftRows (liftAnswers (A .tree) (st .lifts))) (heldRows held ++ instructionRows is)) ∙ ap (λ (o : Option Tree). text (keyIn st o)) (sym (A .is)));
         most = omega (arith, L .most, F .most, few-lifts);
@@ -83,7 +67,7 @@ module _ (s : List ℕ) (st : ReadingState) (e : reading s ≡ accepted st) (A :
 -- ---- what `read` answers for such a sheet
 pub record IsRead (s : List ℕ) (st : ReadingState) (read : Sheet) : Type 0 where
   pub is : reading s ≡ accepted st
-  pub has : Accepted mostSheetNodes s st
+  pub has : Accepted s st
   pub list : take (read .nodes) (read .tree) ≡ postfix (has .tree)
   pub long : read .nodes ≤ length (read .tree)
   pub counted : read .nodes ≡ size (has .tree)
@@ -101,11 +85,11 @@ answer-is s st e =
       is = e;
       has = A;
       list = answered-tree st ∙ A .list;
-      long = omega (arith, length-append (st .entries) (drop (length (st .entries)) (replicate mostSheetNodes 0)));
+      long = answered-long st .0;
       counted = ap length (A .list) ∙ postfix-length (A .tree);
-      most = omega (arith, A .nodes);
+      most = A .nodes;
       marks = answered-marks st;
-      marks-long = omega (arith, length-append (st .marks) (drop (length (st .marks)) (replicate mostGroups 0)));
+      marks-long = answered-long st .1;
       asks = asked s st e A;
       few = few-lifts s st e A;
     }

@@ -8,7 +8,7 @@ use Prim.Native.Nat.{ℕ, zero, suc, _+_, _≤_, _<_}
 use native.Mathlib.Omega.{arith}
 use borrow.Author.Tests.{eqb-true, eqb-false, ltb-true, ltb-false}
 use lib.Dec.{eqb, ltb}
-use lib.ListN.{length, replicate, take, drop}
+use lib.ListN.{length, replicate, take, drop, length-append}
 use Rattle.tree.specs.Tree.{Tree, mostNodes, postfix, size, isIn, collect, groups, leaves, mostGroups}
 use Rattle.tree.specs.InnerGroups.{Distinct, leavesIn}
 use Rattle.tree.specs.Parse.{treeOf}
@@ -20,7 +20,8 @@ use Rattle.text.specs.Parts.{Parts, last, part, split}
 use Rattle.text.specs.Line.{lineFeed}
 use Rattle.sheet.specs.Form.{lineOf}
 use Rattle.sheet.specs.InnerLines.{lineAt, LiftRange, LiftsTo}
-use Rattle.sheet.specs.Reading.{mostBytes, mostSheetNodes, LiftLine, ReadingState, ended, trees, faultOf, entered, stateAfter, nothingRead, ReadingOutcome, accepted, refused, readLines, readWithin, reading, sheetOf}
+use Rattle.sheet.specs.Rules.{Rules, sheetRules}
+use Rattle.sheet.specs.Reading.{mostBytes, LiftLine, ReadingState, ended, trees, faultOf, entered, stateAfter, nothingRead, ReadingOutcome, accepted, refused, readLines, readWith, reading, sheetOf}
 use Rattle.sheet.specs.InnerHolding.{InRange, Sound}
 use Rattle.sheet.specs.declared.Line.{Line}
 use Rattle.sheet.specs.declared.Line.the-variants.{Group, Operator, Lift, Mark, End, Bad}
@@ -31,11 +32,11 @@ use Rattle.sheet.proofs.HoldLaws.{marks-few}
 
 -- what reading accepted: one tree within the limits, marks that are groups of it, each once, and lifts that stand line by line
 -- from the byte `start` on
-pub record Accepted (most : ℕ) (sheet : List ℕ) (st : ReadingState) : Type 0 where
+pub record Accepted (sheet : List ℕ) (st : ReadingState) : Type 0 where
   pub tree : Tree
   pub is : treeOf (st .entries) ≡ some tree
   pub list : st .entries ≡ postfix tree
-  pub nodes : size tree ≤ most
+  pub nodes : size tree ≤ mostNodes
   pub different : length (groups tree) ≤ mostGroups
   pub once : Distinct (st .marks)
   pub marked : (g : ℕ) → isIn (st .marks) g ≡ true → isIn (leaves tree) g ≡ true
@@ -74,33 +75,33 @@ path-over : (s : List ℕ) (st : ReadingState) (at after phase : ℕ) (ms : List
 path-over s st at after phase ms p h =
     record { to = p .to; lifts = p .lifts; here = λ z. absurd (omega arith); none-yet = λ z. absurd (omega arith) }
 
-path-next : (most : ℕ) (s : List ℕ) (st : ReadingState) (at : ℕ) (l : Line) → Path s st at → lineAt s at .line ≡ l → InRange l → faultOf most st l ≡ 0
+path-next : (rules : Rules) (s : List ℕ) (st : ReadingState) (at : ℕ) (l : Line) → Path s st at → lineAt s at .line ≡ l → InRange l → faultOf rules st l ≡ 0
     → Path s (stateAfter st l (lineAt s at .next)) (lineAt s at .next)
-path-next most s st at Bad p q r e = absurd (unfold faultOf in let z : _≡_ {A = ℕ} 2 0 = e in omega arith)
-path-next most s st at (Group g) p q r e = path-entered s st at g _ _ p (order-none (st .phase) (length (trees (st .entries))) 0 (order-of most st (Group g) e) .0)
-path-next most s st at (Operator x) p q r e = path-entered s st at x _ _ p (order-none (st .phase) (length (trees (st .entries))) 0 (order-of most st (Operator x) e) .0)
-path-next most s st at (Lift k n) p q r e =
-    let h : p .to ≡ at = p .here (order-none (st .phase) (length (trees (st .entries))) 1 (order-of most st (Lift k n) e) .0) in
+path-next rules s st at Bad p q r e = absurd (unfold faultOf in let z : _≡_ {A = ℕ} 2 0 = e in omega arith)
+path-next rules s st at (Group g) p q r e = path-entered s st at g _ _ p (order-none (st .phase) (length (trees (st .entries))) 0 (order-of rules st (Group g) e) .0)
+path-next rules s st at (Operator x) p q r e = path-entered s st at x _ _ p (order-none (st .phase) (length (trees (st .entries))) 0 (order-of rules st (Operator x) e) .0)
+path-next rules s st at (Lift k n) p q r e =
+    let h : p .to ≡ at = p .here (order-none (st .phase) (length (trees (st .entries))) 1 (order-of rules st (Lift k n) e) .0) in
     record {
       to = lineAt s at .next;
       lifts = lifts-snoc s (st .start) at (st .lifts) (record { position = k; levels = n }) (rw h at (p .lifts)) q r;
       here = λ z. refl;
       none-yet = λ z. absurd (omega arith);
     }
-path-next most s st at (Mark g) p q r e = path-over s st at _ 2 _ p (omega arith)
-path-next most s st at End p q r e = path-over s st at _ ended _ p (omega arith)
+path-next rules s st at (Mark g) p q r e = path-over s st at _ 2 _ p (omega arith)
+path-next rules s st at End p q r e = path-over s st at _ ended _ p (omega arith)
 
 -- ---- at the end
-accepted-of : (most : ℕ) (s : List ℕ) (st : ReadingState) (at : ℕ) → most ≤ mostNodes → Sound most st → Path s st at → st .phase ≡ ended → Accepted most s st
-accepted-of most s st at m S p e =
+accepted-of : (rules : Rules) (s : List ℕ) (st : ReadingState) (at : ℕ) → rules .nodes ≤ mostNodes → Sound rules st → Path s st at → st .phase ≡ ended → Accepted s st
+accepted-of rules s st at m S p e =
     let w = one-tree (st .entries) (S .forest) (S .one (λ z. omega (arith, e))) in
     let t : Tree = w .0 in
     let l : st .entries ≡ postfix t = parse-sound (st .entries) t (w .1) in
-    let n : size t ≤ most = omega (arith, S .nodes, ap length l, postfix-length t) in
+    let n : size t ≤ mostNodes = omega (arith, m, S .nodes, ap length l, postfix-length t) in
     let k : st .groups ≡ groups t = S .known ∙ ap (λ (xs : List ℕ). collect [] (leavesIn xs)) l ∙ ap (collect []) (leaves-postfix t) in
     record {
       tree = t;
-      is = ap treeOf l ∙ tree-of-postfix t (omega arith);
+      is = ap treeOf l ∙ tree-of-postfix t n;
       list = l;
       nodes = n;
       different = rw k at (S .different);
@@ -112,21 +113,21 @@ accepted-of most s st at m S p e =
     }
 
 -- ---- line by line; `fuel` bounds how many bytes are left
-module _ (most : ℕ) (s : List ℕ) (m : most ≤ mostNodes) (end : ReadingState) where
-  at-end : (st : ReadingState) (n at : ℕ) → Sound most st → Path s st at → cond (eqb (st .phase) ended) (accepted st) (refused 10 (n + 1)) ≡ accepted end → Accepted most s end
+module _ (rules : Rules) (s : List ℕ) (m : rules .nodes ≤ mostNodes) (end : ReadingState) where
+  at-end : (st : ReadingState) (n at : ℕ) → Sound rules st → Path s st at → cond (eqb (st .phase) ended) (accepted st) (refused 10 (n + 1)) ≡ accepted end → Accepted s end
   at-end st n at S p e = go (eqb (st .phase) ended) refl e
     where
-      go : (b : Bool) → eqb (st .phase) ended ≡ b → cond b (accepted st) (refused 10 (n + 1)) ≡ accepted end → Accepted most s end
-      go true q e = let z : st ≡ end = cc in rw z at (accepted-of most s st at m S p (eqb-true (st .phase) ended q))
+      go : (b : Bool) → eqb (st .phase) ended ≡ b → cond b (accepted st) (refused 10 (n + 1)) ≡ accepted end → Accepted s end
+      go true q e = let z : st ≡ end = cc in rw z at (accepted-of rules s st at m S p (eqb-true (st .phase) ended q))
       go false q e = no-outcome e
 
   -- what is shown of each state on the way: if reading from there accepts `end`, `end` has what an accepted sheet has
   abbrev Ends : ℕ → Type 0
-  Ends fuel = (st : ReadingState) (n at : ℕ) → length s ≤ at + fuel → Sound most st → Path s st at
-      → readLines most st n at (split lineFeed (drop at s)) ≡ accepted end → Accepted most s end
+  Ends fuel = (st : ReadingState) (n at : ℕ) → length s ≤ at + fuel → Sound rules st → Path s st at
+      → readLines rules st n at (split lineFeed (drop at s)) ≡ accepted end → Accepted s end
 
   accepted-lines : (fuel : ℕ) → Ends fuel
-  accepted-lines zero st n at f S p e = at-end st n at S p (sym (lines-end most st n at s (omega arith)) ∙ e)
+  accepted-lines zero st n at f S p e = at-end st n at S p (sym (lines-end rules st n at s (omega arith)) ∙ e)
   accepted-lines (suc fuel) st n at f S p e = go (ltb at (length s)) refl (accepted-lines fuel)
     where
       l : Line
@@ -135,31 +136,40 @@ module _ (most : ℕ) (s : List ℕ) (m : most ≤ mostNodes) (end : ReadingStat
       to : ℕ
       to = lineAt s at .next
 
-      more : at < length s → Ends fuel → (b : Bool) → eqb (faultOf most st l) 0 ≡ b → cond b (readLines most (stateAfter st l to) (n + 1) to (split lineFeed (drop to s))) (refused (faultOf most st l) (n + 1)) ≡ accepted end
-          → Accepted most s end
+      more : at < length s → Ends fuel → (b : Bool) → eqb (faultOf rules st l) 0 ≡ b → cond b (readLines rules (stateAfter st l to) (n + 1) to (split lineFeed (drop to s))) (refused (faultOf rules st l) (n + 1)) ≡ accepted end
+          → Accepted s end
       more h ih true q e =
-          let z = eqb-true (faultOf most st l) 0 q in
-          ih (stateAfter st l to) (n + 1) to (omega (arith, one-line most s at h .more)) (sound-next most st S l to (line-at-range s at) z) (path-next most s st at l p refl (line-at-range s at) z) e
+          let z = eqb-true (faultOf rules st l) 0 q in
+          ih (stateAfter st l to) (n + 1) to (omega (arith, one-line s at h .more)) (sound-next rules st S l to (line-at-range s at) z) (path-next rules s st at l p refl (line-at-range s at) z) e
       more h ih false q e = no-outcome e
 
-      go : (b : Bool) → ltb at (length s) ≡ b → Ends fuel → Accepted most s end
-      go true q ih = let h = ltb-true at (length s) q in more h ih (eqb (faultOf most st l) 0) refl (sym (one-line most s at h .goes st n) ∙ e)
-      go false q ih = at-end st n at S p (sym (lines-end most st n at s (ltb-false at (length s) q)) ∙ e)
+      go : (b : Bool) → ltb at (length s) ≡ b → Ends fuel → Accepted s end
+      go true q ih = let h = ltb-true at (length s) q in more h ih (eqb (faultOf rules st l) 0) refl (sym (one-line s at h .goes rules st n) ∙ e)
+      go false q ih = at-end st n at S p (sym (lines-end rules st n at s (ltb-false at (length s) q)) ∙ e)
 
-  pub accepted-within : readWithin most s ≡ accepted end → Accepted most s end
-  unfolding readWithin
+  pub accepted-within : readWith rules s ≡ accepted end → Accepted s end
+  unfolding readWith
   accepted-within e = go (ltb mostBytes (length s)) e
     where
       start : Path s nothingRead 0
       start = record { to = 0; lifts = lifts-none s 0; here = λ _. refl; none-yet = λ _. refl }
 
-      go : (b : Bool) → cond b (refused 1 0) (readLines most nothingRead 0 0 (split lineFeed s)) ≡ accepted end → Accepted most s end
+      go : (b : Bool) → cond b (refused 1 0) (readLines rules nothingRead 0 0 (split lineFeed s)) ≡ accepted end → Accepted s end
       go true e = no-outcome e
-      go false e = accepted-lines (length s) nothingRead 0 0 (omega arith) (sound-nothing-read most) start e
+      go false e = accepted-lines (length s) nothingRead 0 0 (omega arith) (sound-nothing-read rules) start e
 
 -- what an accepted sheet has
-pub accepted-sheet : (s : List ℕ) (st : ReadingState) → reading s ≡ accepted st → Accepted mostSheetNodes s st
-accepted-sheet s st e = accepted-within mostSheetNodes s (omega arith) st e
+pub accepted-sheet : (s : List ℕ) (st : ReadingState) → reading s ≡ accepted st → Accepted s st
+accepted-sheet s st e = accepted-within sheetRules s (omega arith) st e
+
+-- it is within the limit of bytes
+pub accepted-short : (s : List ℕ) (st : ReadingState) → reading s ≡ accepted st → length s ≤ mostBytes
+unfolding readWith
+accepted-short s st e = go (ltb mostBytes (length s)) refl e
+  where
+    go : (b : Bool) → ltb mostBytes (length s) ≡ b → cond b (refused 1 0) (readLines sheetRules nothingRead 0 0 (split lineFeed s)) ≡ accepted st → length s ≤ mostBytes
+    go true q e = no-outcome e
+    go false q e = ltb-false mostBytes (length s) q
 
 -- ---- a refusal's number is not 0, so that the number tells
 refused-line : (o : ReadingOutcome) (f n number line : ℕ) → cond (eqb f 0) o (refused f n) ≡ refused number line
@@ -170,24 +180,24 @@ refused-line o f n number line e later z = go (eqb f 0) refl e
     go true q e = later e z
     go false q e = let r : f ≡ number = cc in eqb-false f 0 q (r ∙ z)
 
-refused-lines : (most : ℕ) (ps : Parts) (st : ReadingState) (n at number line : ℕ) → readLines most st n at ps ≡ refused number line → number ≡ 0 → ⊥
+refused-lines : (rules : Rules) (ps : Parts) (st : ReadingState) (n at number line : ℕ) → readLines rules st n at ps ≡ refused number line → number ≡ 0 → ⊥
 unfolding readLines
-refused-lines most (last l) st n at number line e z = go (eqb (length l) 0) (eqb (st .phase) ended) e
+refused-lines rules (last l) st n at number line e z = go (eqb (length l) 0) (eqb (st .phase) ended) e
   where
     go : (a b : Bool) → cond a (cond b (accepted st) (refused 10 (n + 1))) (refused 2 (n + 1)) ≡ refused number line → ⊥
     go true true e = let q : _≡_ {A = ℕ} 0 1 = cc in omega arith
     go true false e = let q : number ≡ 10 = cc in omega arith
     go false b e = let q : number ≡ 2 = cc in omega arith
-refused-lines most (part l ls) st n at number line e z =
-    refused-line _ (faultOf most st (lineOf l)) (n + 1) number line e (refused-lines most ls _ _ _ number line) z
+refused-lines rules (part l ls) st n at number line e z =
+    refused-line _ (faultOf rules st (lineOf l)) (n + 1) number line e (refused-lines rules ls _ _ _ number line) z
 
-pub refused-number : (most : ℕ) (s : List ℕ) (number line : ℕ) → readWithin most s ≡ refused number line → number ≡ 0 → ⊥
-unfolding readWithin
-refused-number most s number line e z = go (ltb mostBytes (length s)) e
+pub refused-number : (rules : Rules) (s : List ℕ) (number line : ℕ) → readWith rules s ≡ refused number line → number ≡ 0 → ⊥
+unfolding readWith
+refused-number rules s number line e z = go (ltb mostBytes (length s)) e
   where
-    go : (b : Bool) → cond b (refused 1 0) (readLines most nothingRead 0 0 (split lineFeed s)) ≡ refused number line → ⊥
+    go : (b : Bool) → cond b (refused 1 0) (readLines rules nothingRead 0 0 (split lineFeed s)) ≡ refused number line → ⊥
     go true e = let q : number ≡ 1 = cc in omega arith
-    go false e = refused-lines most (split lineFeed s) nothingRead 0 0 number line e z
+    go false e = refused-lines rules (split lineFeed s) nothingRead 0 0 number line e z
 
 -- what `read`'s number tells: 0 for an accepted sheet, else the refusal
 pub number-accepted : (s : List ℕ) → sheetOf (reading s) .number ≡ 0 → (st : ReadingState) × (reading s ≡ accepted st)
@@ -196,7 +206,7 @@ number-accepted s e = go (reading s) refl e
   where
     go : (o : ReadingOutcome) → reading s ≡ o → sheetOf o .number ≡ 0 → (st : ReadingState) × (reading s ≡ accepted st)
     go (accepted st) q e = (st, q)
-    go (refused number line) q e = absurd (refused-number mostSheetNodes s number line q e)
+    go (refused number line) q e = absurd (refused-number sheetRules s number line q e)
 
 pub number-refused : (s : List ℕ) → (sheetOf (reading s) .number ≡ 0 → ⊥) → reading s ≡ refused (sheetOf (reading s) .number) (sheetOf (reading s) .line)
 unfolding sheetOf
@@ -209,8 +219,16 @@ number-refused s n = go (reading s) refl n
 -- ---- the arrays of an accepted sheet's answer hold its tree's entries and its marks
 pub answered-tree : (st : ReadingState) → take (sheetOf (accepted st) .nodes) (sheetOf (accepted st) .tree) ≡ st .entries
 unfolding sheetOf
-answered-tree st = take-over (st .entries) (replicate mostSheetNodes 0) (length (st .entries)) refl
+answered-tree st = take-over (st .entries) (replicate (sheetRules .nodes) 0) (length (st .entries)) refl
 
 pub answered-marks : (st : ReadingState) → take (sheetOf (accepted st) .marked) (sheetOf (accepted st) .marks) ≡ st .marks
 unfolding sheetOf
 answered-marks st = take-over (st .marks) (replicate mostGroups 0) (length (st .marks)) refl
+
+-- and have room for them
+pub answered-long : (st : ReadingState) → (sheetOf (accepted st) .nodes ≤ length (sheetOf (accepted st) .tree)) × (sheetOf (accepted st) .marked ≤ length (sheetOf (accepted st) .marks))
+unfolding sheetOf
+answered-long st = (
+  omega (arith, length-append (st .entries) (drop (length (st .entries)) (replicate (sheetRules .nodes) 0))),
+  omega (arith, length-append (st .marks) (drop (length (st .marks)) (replicate mostGroups 0))),
+)

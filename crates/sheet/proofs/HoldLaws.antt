@@ -11,6 +11,7 @@ use Rattle.tree.specs.Pass.{pass}
 use Rattle.tree.specs.InnerWriting.{Wrote}
 use Rattle.tree.proofs.GroupLaws.{distinct-most}
 use Rattle.tree.proofs.WritingLaws.{wrote-nothing, wrote-one, wrote-then, wrote-as, wrote-over, wrote-take}
+use Rattle.sheet.specs.Rules.{Rules}
 use Rattle.sheet.specs.Reading.{LiftLine, ReadingState, ended, trees, firstFault, orderFault, kindFault, faultOf, entered, stateAfter, nothingRead, accepted}
 use Rattle.sheet.specs.InnerHolding.{InRange, Sound, Holds, AfterLine, Gives}
 use Rattle.sheet.specs.declared.Line.{Line}
@@ -26,10 +27,10 @@ order-first f F rest e n = rw (← e) (first-some f rest n)
 pub order-second : (f F rest : ℕ) → f ≡ F → f ≡ 0 → firstFault F rest ≡ rest
 order-second f F rest e z = first-second F rest (sym e ∙ z)
 
-pub marks-few : {most : ℕ} {st : ReadingState} → Sound most st → length (st .marks) ≤ mostGroups
+pub marks-few : {rules : Rules} {st : ReadingState} → Sound rules st → length (st .marks) ≤ mostGroups
 marks-few {st = st} S = omega (arith, distinct-most (st .marks) (st .groups) (S .once) (S .marked), S .different)
 
-module _ {most : ℕ} {st : ReadingState} {p : Progress} {tree groups marks : List ℕ} (h : Holds most st p tree groups marks) where
+module _ {rules : Rules} {st : ReadingState} {p : Progress} {tree groups marks : List ℕ} (h : Holds rules st p tree groups marks) where
   pub nodes-is : p .nodes ≡ length (st .entries)
   nodes-is = omega (arith, h .entries .ends)
 
@@ -39,8 +40,8 @@ module _ {most : ℕ} {st : ReadingState} {p : Progress} {tree groups marks : Li
   pub marked-is : p .marked ≡ length (st .marks)
   marked-is = omega (arith, h .marked .ends)
 
-  pub tree-long : length tree ≡ most
-  tree-long = h .entries .same ∙ length-replicate most 0
+  pub tree-long : length tree ≡ rules .nodes
+  tree-long = h .entries .same ∙ length-replicate (rules .nodes) 0
 
   pub groups-long : length groups ≡ mostGroups
   groups-long = h .known .same
@@ -61,45 +62,45 @@ module _ {most : ℕ} {st : ReadingState} {p : Progress} {tree groups marks : Li
   marked-take = wrote-take (h .marked) (marks-few (h .sound))
 
   -- ---- a line's fault, in the code's numbers
-  pub fault-group : (g : ℕ) → faultOf most st (Group g)
-      ≡ firstFault (orderFault (p .phase) (p .waiting) 0) (cond (leb most (p .nodes)) 5 (cond (not (isIn (take (p .different) groups) g) && leb mostGroups (p .different)) 6 0))
+  pub fault-group : (g : ℕ) → faultOf rules st (Group g)
+      ≡ firstFault (orderFault (p .phase) (p .waiting) 0) (cond (leb (length tree) (p .nodes)) 5 (cond (not (isIn (take (p .different) groups) g) && leb mostGroups (p .different)) 6 0))
   unfolding faultOf
-  fault-group g = rw (h .phase, h .waits, nodes-is, known-take, different-is)
+  fault-group g = rw (h .phase, h .waits, tree-long, nodes-is, known-take, different-is)
 
-  pub fault-operator : (x : ℕ) → faultOf most st (Operator x) ≡ firstFault (orderFault (p .phase) (p .waiting) 0) (cond (ltb (p .waiting) 2) 4 (cond (leb most (p .nodes)) 5 0))
+  pub fault-operator : (x : ℕ) → faultOf rules st (Operator x) ≡ firstFault (orderFault (p .phase) (p .waiting) 0) (cond (ltb (p .waiting) 2) 4 (cond (leb (length tree) (p .nodes)) 5 0))
   unfolding faultOf
-  fault-operator x = rw (h .phase, h .waits, nodes-is)
+  fault-operator x = rw (h .phase, h .waits, tree-long, nodes-is)
 
-  pub fault-lift : (q n : ℕ) → faultOf most st (Lift q n) ≡ firstFault (orderFault (p .phase) (p .waiting) 1) 0
+  pub fault-lift : (q n : ℕ) → faultOf rules st (Lift q n) ≡ firstFault (orderFault (p .phase) (p .waiting) 1) 0
   unfolding faultOf
   fault-lift q n = rw (h .phase, h .waits)
 
-  pub fault-mark : (g : ℕ) → faultOf most st (Mark g)
+  pub fault-mark : (g : ℕ) → faultOf rules st (Mark g)
       ≡ firstFault (orderFault (p .phase) (p .waiting) 2) (cond (isIn (take (p .different) groups) g) (cond (isIn (take (p .marked) marks) g) 9 0) 8)
   unfolding faultOf
   fault-mark g = rw (h .phase, h .waits, known-take, marked-take)
 
-  pub fault-end : faultOf most st End ≡ firstFault (orderFault (p .phase) (p .waiting) 3) 0
+  pub fault-end : faultOf rules st End ≡ firstFault (orderFault (p .phase) (p .waiting) 3) 0
   unfolding faultOf
   fault-end = rw (h .phase, h .waits)
 
-  pub fault-bad : faultOf most st Bad ≡ 2
+  pub fault-bad : faultOf rules st Bad ≡ 2
   unfolding faultOf
   fault-bad = refl
 
   -- ---- a line with a fault
-  pub stepped-faulty : (l : Line) (after : ℕ) (r : Progress) (f : ℕ) (es gs ms : List ℕ) → (r .fault ≡ f) × (r .line ≡ p .line + 1) → faultOf most st l ≡ f → (f ≡ 0 → ⊥)
-      → AfterLine most st l after p r es gs ms
+  pub stepped-faulty : (l : Line) (after : ℕ) (r : Progress) (f : ℕ) (es gs ms : List ℕ) → (r .fault ≡ f) × (r .line ≡ p .line + 1) → faultOf rules st l ≡ f → (f ≡ 0 → ⊥)
+      → AfterLine rules st l after p r es gs ms
   stepped-faulty l after r f es gs ms w e n = record { fault = w .0 ∙ sym e; counted = w .1; holds = λ z. absurd (n (sym e ∙ z)) }
 
   -- ---- a line without fault
-  stepped-on : (l : Line) (after : ℕ) (r : Progress) (es gs ms : List ℕ) → r .fault ≡ p .fault → r .line ≡ p .line + 1 → faultOf most st l ≡ 0
-      → Holds most (stateAfter st l after) r es gs ms → AfterLine most st l after p r es gs ms
+  stepped-on : (l : Line) (after : ℕ) (r : Progress) (es gs ms : List ℕ) → r .fault ≡ p .fault → r .line ≡ p .line + 1 → faultOf rules st l ≡ 0
+      → Holds rules (stateAfter st l after) r es gs ms → AfterLine rules st l after p r es gs ms
   stepped-on l after r es gs ms f c e k = record { fault = f ∙ h .fault ∙ sym e; counted = c; holds = λ z. k }
 
-  holds-entered : (x after w d : ℕ) (gs array : List ℕ) → Sound most (entered st x gs after) → w ≡ length (trees (st .entries ++ (x ∷ []))) → w ≤ p .nodes + 1
+  holds-entered : (x after w d : ℕ) (gs array : List ℕ) → Sound rules (entered st x gs after) → w ≡ length (trees (st .entries ++ (x ∷ []))) → w ≤ p .nodes + 1
       → Wrote (replicate mostGroups 0) 0 array d gs
-      → Holds most (entered st x gs after)
+      → Holds rules (entered st x gs after)
       (record { fault = p .fault; line = p .line + 1; phase = p .phase; nodes = p .nodes + 1; waiting = w; different = d; marked = p .marked; start = after; lifts = p .lifts })
       (set tree (p .nodes) x) array marks
   holds-entered x after w d gs array S e m k = record {
@@ -119,40 +120,40 @@ module _ {most : ℕ} {st : ReadingState} {p : Progress} {tree groups marks : Li
   waits-group : (g : ℕ) → isGroup g ≡ true → p .waiting + 1 ≡ length (trees (st .entries ++ (g ∷ [])))
   waits-group g r = omega (arith, h .waits, more-group (st .entries) g r (h .sound .forest) .count)
 
-  pub stepped-group-old : (g after : ℕ) → isGroup g ≡ true → faultOf most st (Group g) ≡ 0 → isIn (take (p .different) groups) g ≡ true
-      → AfterLine most st (Group g) after p
+  pub stepped-group-old : (g after : ℕ) → isGroup g ≡ true → faultOf rules st (Group g) ≡ 0 → isIn (take (p .different) groups) g ≡ true
+      → AfterLine rules st (Group g) after p
       (record { fault = p .fault; line = p .line + 1; phase = p .phase; nodes = p .nodes + 1; waiting = p .waiting + 1; different = p .different; marked = p .marked; start = after; lifts = p .lifts })
       (set tree (p .nodes) g) groups marks
   stepped-group-old g after r e i =
       let q : isIn (st .groups) g ≡ true = rw known-take at i in
       stepped-on (Group g) after _ _ _ _ refl refl e
-      (holds-entered g after (p .waiting + 1) (p .different) (withNew (st .groups) g) groups (sound-next most st (h .sound) (Group g) after r e) (waits-group g r)
+      (holds-entered g after (p .waiting + 1) (p .different) (withNew (st .groups) g) groups (sound-next rules st (h .sound) (Group g) after r e) (waits-group g r)
       (omega (arith, h .within)) (wrote-as (h .known) (rw q)))
 
-  pub stepped-group-new : (g after : ℕ) → isGroup g ≡ true → faultOf most st (Group g) ≡ 0 → isIn (take (p .different) groups) g ≡ false
-      → AfterLine most st (Group g) after p
+  pub stepped-group-new : (g after : ℕ) → isGroup g ≡ true → faultOf rules st (Group g) ≡ 0 → isIn (take (p .different) groups) g ≡ false
+      → AfterLine rules st (Group g) after p
       (record { fault = p .fault; line = p .line + 1; phase = p .phase; nodes = p .nodes + 1; waiting = p .waiting + 1; different = p .different + 1; marked = p .marked; start = after; lifts = p .lifts })
       (set tree (p .nodes) g) (set groups (p .different) g) marks
   stepped-group-new g after r e i =
       let q : isIn (st .groups) g ≡ false = rw known-take at i in
       stepped-on (Group g) after _ _ _ _ refl refl e
-      (holds-entered g after (p .waiting + 1) (p .different + 1) (withNew (st .groups) g) (set groups (p .different) g) (sound-next most st (h .sound) (Group g) after r e) (waits-group g r)
+      (holds-entered g after (p .waiting + 1) (p .different + 1) (withNew (st .groups) g) (set groups (p .different) g) (sound-next rules st (h .sound) (Group g) after r e) (waits-group g r)
       (omega (arith, h .within)) (wrote-as (wrote-then (h .known) (wrote-one groups (p .different) g)) (rw q)))
 
-  pub stepped-operator : (x after : ℕ) → InRange (Operator x) → faultOf most st (Operator x) ≡ 0 → 2 ≤ p .waiting
-      → AfterLine most st (Operator x) after p
+  pub stepped-operator : (x after : ℕ) → InRange (Operator x) → faultOf rules st (Operator x) ≡ 0 → 2 ≤ p .waiting
+      → AfterLine rules st (Operator x) after p
       (record { fault = p .fault; line = p .line + 1; phase = p .phase; nodes = p .nodes + 1; waiting = p .waiting - 1; different = p .different; marked = p .marked; start = after; lifts = p .lifts })
       (set tree (p .nodes) x) groups marks
   stepped-operator x after r e two =
       let w : p .waiting - 1 ≡ length (trees (st .entries ++ (x ∷ []))) = omega (arith, h .waits, more-operator (st .entries) x (r .0) (r .1) (omega (arith, h .waits)) (h .sound .forest) .count) in
       stepped-on (Operator x) after _ _ _ _ refl refl e
-      (holds-entered x after (p .waiting - 1) (p .different) (st .groups) groups (sound-next most st (h .sound) (Operator x) after r e) w (omega (arith, h .within)) (h .known))
+      (holds-entered x after (p .waiting - 1) (p .different) (st .groups) groups (sound-next rules st (h .sound) (Operator x) after r e) w (omega (arith, h .within)) (h .known))
 
   -- a line after the tree lines changes neither the tree nor its groups
   holds-over : (phase marked lifts : ℕ) (ms array : List ℕ) (ls : List LiftLine)
-      → Sound most (record { phase = phase; entries = st .entries; groups = st .groups; marks = ms; start = st .start; lifts = ls })
+      → Sound rules (record { phase = phase; entries = st .entries; groups = st .groups; marks = ms; start = st .start; lifts = ls })
       → Wrote (replicate mostGroups 0) 0 array marked ms → lifts ≡ length ls → lifts ≤ p .line + 1
-      → Holds most (record { phase = phase; entries = st .entries; groups = st .groups; marks = ms; start = st .start; lifts = ls })
+      → Holds rules (record { phase = phase; entries = st .entries; groups = st .groups; marks = ms; start = st .start; lifts = ls })
       (record { fault = p .fault; line = p .line + 1; phase = phase; nodes = p .nodes; waiting = p .waiting; different = p .different; marked = marked; start = p .start; lifts = lifts })
       tree groups array
   holds-over phase marked lifts ms array ls S w e f = record {
@@ -169,47 +170,47 @@ module _ {most : ℕ} {st : ReadingState} {p : Progress} {tree groups marks : Li
     few = f;
   }
 
-  pub stepped-lift : (q n after : ℕ) → faultOf most st (Lift q n) ≡ 0
-      → AfterLine most st (Lift q n) after p
+  pub stepped-lift : (q n after : ℕ) → faultOf rules st (Lift q n) ≡ 0
+      → AfterLine rules st (Lift q n) after p
       (record { fault = p .fault; line = p .line + 1; phase = 1; nodes = p .nodes; waiting = p .waiting; different = p .different; marked = p .marked; start = p .start; lifts = p .lifts + 1 })
       tree groups marks
   unfolding faultOf
   stepped-lift q n after e =
       let l = length-append (st .lifts) (record { position = q; levels = n } ∷ []) in
       stepped-on (Lift q n) after _ _ _ _ refl refl e
-      (holds-over 1 _ _ _ _ _ (sound-lift most st (h .sound) q n after (first-none _ _ e .0)) (h .marked) (omega (arith, h .lifts, l)) (omega (arith, h .few)))
+      (holds-over 1 _ _ _ _ _ (sound-lift rules st (h .sound) q n after (first-none _ _ e .0)) (h .marked) (omega (arith, h .lifts, l)) (omega (arith, h .few)))
 
-  pub stepped-mark : (g after : ℕ) → faultOf most st (Mark g) ≡ 0
-      → AfterLine most st (Mark g) after p
+  pub stepped-mark : (g after : ℕ) → faultOf rules st (Mark g) ≡ 0
+      → AfterLine rules st (Mark g) after p
       (record { fault = p .fault; line = p .line + 1; phase = 2; nodes = p .nodes; waiting = p .waiting; different = p .different; marked = p .marked + 1; start = p .start; lifts = p .lifts })
       tree groups (set marks (p .marked) g)
   unfolding faultOf
   stepped-mark g after e =
       let z = first-none _ _ e in
       stepped-on (Mark g) after _ _ _ _ refl refl e
-      (holds-over 2 _ _ _ _ _ (sound-mark most st (h .sound) g after (z .0) (z .1)) (wrote-then (h .marked) (wrote-one marks (p .marked) g)) (h .lifts) (omega (arith, h .few)))
+      (holds-over 2 _ _ _ _ _ (sound-mark rules st (h .sound) g after (z .0) (z .1)) (wrote-then (h .marked) (wrote-one marks (p .marked) g)) (h .lifts) (omega (arith, h .few)))
 
   -- there is room for a mark without fault
-  pub mark-room : (g : ℕ) → faultOf most st (Mark g) ≡ 0 → p .marked < length marks
+  pub mark-room : (g : ℕ) → faultOf rules st (Mark g) ≡ 0 → p .marked < length marks
   unfolding faultOf
   mark-room g e =
-      let z : (orderFault (st .phase) (length (trees (st .entries))) 2 ≡ 0) × (kindFault most st (Mark g) ≡ 0) = first-none _ _ e in
-      omega (arith, marks-few (sound-mark most st (h .sound) g 0 (z .0) (z .1)), length-append (st .marks) (g ∷ []), marked-is, marks-long)
+      let z : (orderFault (st .phase) (length (trees (st .entries))) 2 ≡ 0) × (kindFault rules st (Mark g) ≡ 0) = first-none _ _ e in
+      omega (arith, marks-few (sound-mark rules st (h .sound) g 0 (z .0) (z .1)), length-append (st .marks) (g ∷ []), marked-is, marks-long)
 
-  pub stepped-end : (after : ℕ) → faultOf most st End ≡ 0
-      → AfterLine most st End after p
+  pub stepped-end : (after : ℕ) → faultOf rules st End ≡ 0
+      → AfterLine rules st End after p
       (record { fault = p .fault; line = p .line + 1; phase = ended; nodes = p .nodes; waiting = p .waiting; different = p .different; marked = p .marked; start = p .start; lifts = p .lifts })
       tree groups marks
   unfolding faultOf
   stepped-end after e =
       stepped-on End after _ _ _ _ refl refl e
-      (holds-over ended _ _ _ _ _ (sound-end most st (h .sound) after (first-none _ _ e .0)) (h .marked) (h .lifts) (omega (arith, h .few)))
+      (holds-over ended _ _ _ _ _ (sound-end rules st (h .sound) after (first-none _ _ e .0)) (h .marked) (h .lifts) (omega (arith, h .few)))
 
   -- ---- at the end
-  pub holds-gives : Gives most (accepted st) p tree marks
+  pub holds-gives : Gives rules (accepted st) p tree marks
   holds-gives = record {
     fault = h .fault;
-    entries = wrote-over (h .entries) (omega (arith, h .sound .nodes, length-replicate {A = ℕ} most 0));
+    entries = wrote-over (h .entries) (omega (arith, h .sound .nodes, length-replicate {A = ℕ} (rules .nodes) 0));
     nodes = nodes-is;
     marks-are = wrote-over (h .marked) (marks-few (h .sound));
     marked = marked-is;
@@ -222,15 +223,15 @@ no-trees : _≡_ {A = ℕ} 0 (length (trees []))
 unfolding trees pass
 no-trees = refl
 
-pub holds-nothing-read : (most : ℕ) (tree marks : List ℕ) → tree ≡ replicate most 0 → marks ≡ replicate mostGroups 0
-    → Holds most nothingRead (record { fault = 0; line = 0; phase = 0; nodes = 0; waiting = 0; different = 0; marked = 0; start = 0; lifts = 0 }) tree (replicate mostGroups 0) marks
-holds-nothing-read most tree marks e f = record {
-  sound = sound-nothing-read most;
+pub holds-nothing-read : (rules : Rules) (tree marks : List ℕ) → tree ≡ replicate (rules .nodes) 0 → marks ≡ replicate mostGroups 0
+    → Holds rules nothingRead (record { fault = 0; line = 0; phase = 0; nodes = 0; waiting = 0; different = 0; marked = 0; start = 0; lifts = 0 }) tree (replicate mostGroups 0) marks
+holds-nothing-read rules tree marks e f = record {
+  sound = sound-nothing-read rules;
   fault = refl;
   phase = refl;
   waits = no-trees;
   within = omega arith;
-  entries = rw e (wrote-nothing (replicate most 0) 0);
+  entries = rw e (wrote-nothing (replicate (rules .nodes) 0) 0);
   known = wrote-nothing (replicate mostGroups 0) 0;
   marked = rw f (wrote-nothing (replicate mostGroups 0) 0);
   start = refl;

@@ -15,6 +15,7 @@ use Rattle.text.specs.Line.{lineFeed}
 use Rattle.text.proofs.PartsLaws.{split-all, split-first, ahead-most}
 use Rattle.sheet.specs.Form.{lineOf}
 use Rattle.sheet.specs.InnerLines.{firstLine, lineAt}
+use Rattle.sheet.specs.Rules.{Rules}
 use Rattle.sheet.specs.Reading.{ReadingState, ended, faultOf, stateAfter, accepted, refused, readLines}
 use Rattle.sheet.specs.InnerHolding.{InRange}
 use Rattle.sheet.specs.declared.Line.the-variants.{Bad}
@@ -45,42 +46,42 @@ unfolding lineAt
 line-at-range s at = first-range at (split lineFeed (drop at s))
 
 -- one line more: it takes a byte at least, and reading goes on after it or stops with its fault
-pub record OneLine (most : ℕ) (s : List ℕ) (at : ℕ) (here : LineAt) : Type 0 where
+pub record OneLine (s : List ℕ) (at : ℕ) (here : LineAt) : Type 0 where
   pub more : at < here .next
   pub within : here .next ≤ length s
-  pub goes : (st : ReadingState) (n : ℕ) → readLines most st n at (split lineFeed (drop at s))
-      ≡ cond (eqb (faultOf most st (here .line)) 0) (readLines most (stateAfter st (here .line) (here .next)) (n + 1) (here .next) (split lineFeed (drop (here .next) s)))
-      (refused (faultOf most st (here .line)) (n + 1))
+  pub goes : (rules : Rules) (st : ReadingState) (n : ℕ) → readLines rules st n at (split lineFeed (drop at s))
+      ≡ cond (eqb (faultOf rules st (here .line)) 0) (readLines rules (stateAfter st (here .line) (here .next)) (n + 1) (here .next) (split lineFeed (drop (here .next) s)))
+      (refused (faultOf rules st (here .line)) (n + 1))
 
-cut-line : (most : ℕ) (s : List ℕ) (at : ℕ) → at < length s → ahead lineFeed (drop at s) ≡ length (drop at s) → OneLine most s at (lineAt s at)
+cut-line : (s : List ℕ) (at : ℕ) → at < length s → ahead lineFeed (drop at s) ≡ length (drop at s) → OneLine s at (lineAt s at)
 unfolding readLines faultOf
-cut-line most s at h e =
+cut-line s at h e =
     rw (line-cut s at (ahead lineFeed (drop at s)) refl e) (record {
       more = omega (arith, length-drop at s);
       within = omega (arith, length-drop at s);
-      goes = λ st n. rw (split-all lineFeed (drop at s) e, ne-eqb (length (drop at s)) 0 (λ z. omega (arith, length-drop at s)));
+      goes = λ rules st n. rw (split-all lineFeed (drop at s) e, ne-eqb (length (drop at s)) 0 (λ z. omega (arith, length-drop at s)));
     })
 
-whole-line : (most : ℕ) (s : List ℕ) (at : ℕ) → at < length s → ahead lineFeed (drop at s) < length (drop at s) → OneLine most s at (lineAt s at)
+whole-line : (s : List ℕ) (at : ℕ) → at < length s → ahead lineFeed (drop at s) < length (drop at s) → OneLine s at (lineAt s at)
 unfolding readLines
-whole-line most s at h k =
+whole-line s at h k =
     let a = ahead lineFeed (drop at s) in
     let q : at + (a + 1) ≡ at + a + 1 = omega arith in
     rw (line-whole s at a refl k) (record {
       more = omega arith;
       within = omega (arith, length-drop at s);
-      goes = λ st n. rw (split-first lineFeed (drop at s) k, length-take-le a (drop at s) (le-of-lt k), drop-drop, q);
+      goes = λ rules st n. rw (split-first lineFeed (drop at s) k, length-take-le a (drop at s) (le-of-lt k), drop-drop, q);
     })
 
-pub one-line : (most : ℕ) (s : List ℕ) (at : ℕ) → at < length s → OneLine most s at (lineAt s at)
-one-line most s at h = go (ltb (ahead lineFeed (drop at s)) (length (drop at s))) refl
+pub one-line : (s : List ℕ) (at : ℕ) → at < length s → OneLine s at (lineAt s at)
+one-line s at h = go (ltb (ahead lineFeed (drop at s)) (length (drop at s))) refl
   where
-    go : (b : Bool) → ltb (ahead lineFeed (drop at s)) (length (drop at s)) ≡ b → OneLine most s at (lineAt s at)
-    go true q = whole-line most s at h (ltb-true (ahead lineFeed (drop at s)) (length (drop at s)) q)
-    go false q = cut-line most s at h (omega (arith, ltb-false (ahead lineFeed (drop at s)) (length (drop at s)) q, ahead-most lineFeed (drop at s)))
+    go : (b : Bool) → ltb (ahead lineFeed (drop at s)) (length (drop at s)) ≡ b → OneLine s at (lineAt s at)
+    go true q = whole-line s at h (ltb-true (ahead lineFeed (drop at s)) (length (drop at s)) q)
+    go false q = cut-line s at h (omega (arith, ltb-false (ahead lineFeed (drop at s)) (length (drop at s)) q, ahead-most lineFeed (drop at s)))
 
 -- lines used up
-pub lines-end : (most : ℕ) (st : ReadingState) (n at : ℕ) (s : List ℕ) → length s ≤ at
-    → readLines most st n at (split lineFeed (drop at s)) ≡ cond (eqb (st .phase) ended) (accepted st) (refused 10 (n + 1))
+pub lines-end : (rules : Rules) (st : ReadingState) (n at : ℕ) (s : List ℕ) → length s ≤ at
+    → readLines rules st n at (split lineFeed (drop at s)) ≡ cond (eqb (st .phase) ended) (accepted st) (refused 10 (n + 1))
 unfolding readLines split
-lines-end most st n at s h = rw (drop-of-length-le s h)
+lines-end rules st n at s h = rw (drop-of-length-le s h)

@@ -11,6 +11,7 @@ use Rattle.tree.specs.Tree.{isGroup, isIn, withNew, collect, mostGroups}
 use Rattle.tree.specs.InnerGroups.{Distinct, leavesIn}
 use Rattle.tree.specs.Pass.{pass}
 use Rattle.tree.proofs.GroupLaws.{end-cases, is-in-new, collect-append, distinct-end, leaves-append, leaves-one, leaves-sign}
+use Rattle.sheet.specs.Rules.{Rules}
 use Rattle.sheet.specs.Reading.{LiftLine, ReadingState, place, ended, trees, firstFault, formFault, orderFault, kindFault, faultOf, entered, stateAfter, nothingRead}
 use Rattle.sheet.specs.InnerHolding.{InRange, Sound}
 use Rattle.sheet.specs.declared.Line.{Line}
@@ -47,11 +48,11 @@ order-none phase many place e =
     go true q e = eqb-true many 1 q
     go false q e = absurd (true≢false e)
 
-pub order-of : (most : ℕ) (st : ReadingState) (l : Line) → faultOf most st l ≡ 0 → orderFault (st .phase) (length (trees (st .entries))) (place l) ≡ 0
+pub order-of : (rules : Rules) (st : ReadingState) (l : Line) → faultOf rules st l ≡ 0 → orderFault (st .phase) (length (trees (st .entries))) (place l) ≡ 0
 unfolding faultOf
-order-of most st l e =
+order-of rules st l e =
     let o = orderFault (st .phase) (length (trees (st .entries))) (place l) in
-    first-none o (kindFault most st l) (first-none (formFault l) (firstFault o (kindFault most st l)) e .1) .0
+    first-none o (kindFault rules st l) (first-none (formFault l) (firstFault o (kindFault rules st l)) e .1) .0
 
 collect-one : (xs : List ℕ) (g : ℕ) → collect xs (g ∷ []) ≡ withNew xs g
 unfolding collect
@@ -61,7 +62,7 @@ collect-none : (xs : List ℕ) → collect xs [] ≡ xs
 unfolding collect
 collect-none xs = refl
 
-module _ (most : ℕ) (st : ReadingState) (S : Sound most st) where
+module _ (rules : Rules) (st : ReadingState) (S : Sound rules st) where
   -- after a line that is no tree line one tree waits
   one-waits : (place : ℕ) → 0 < place → orderFault (st .phase) (length (trees (st .entries))) place ≡ 0 → length (trees (st .entries)) ≡ 1
   one-waits place h e = go (eqb (st .phase) 0) refl
@@ -71,9 +72,9 @@ module _ (most : ℕ) (st : ReadingState) (S : Sound most st) where
       go false q = S .one (eqb-false (st .phase) 0 q)
 
   -- one entry more
-  sound-entered : (x after many : ℕ) (gs : List ℕ) → st .phase ≤ 0 → length (st .entries) < most → More (st .entries ++ (x ∷ [])) many
+  sound-entered : (x after many : ℕ) (gs : List ℕ) → st .phase ≤ 0 → length (st .entries) < rules .nodes → More (st .entries ++ (x ∷ [])) many
       → gs ≡ collect (collect [] (leavesIn (st .entries))) (leavesIn (x ∷ [])) → length gs ≤ mostGroups
-      → ((g : ℕ) → isIn (st .groups) g ≡ true → isIn gs g ≡ true) → Sound most (entered st x gs after)
+      → ((g : ℕ) → isIn (st .groups) g ≡ true → isIn gs g ≡ true) → Sound rules (entered st x gs after)
   sound-entered x after many gs p h m e k keep = record {
     forest = m .forest;
     nodes = omega (arith, length-append (st .entries) (x ∷ []));
@@ -84,12 +85,12 @@ module _ (most : ℕ) (st : ReadingState) (S : Sound most st) where
     one = λ n. absurd (n (omega arith));
   }
 
-  sound-group : (g after : ℕ) → isGroup g ≡ true → orderFault (st .phase) (length (trees (st .entries))) 0 ≡ 0 → kindFault most st (Group g) ≡ 0
-      → Sound most (stateAfter st (Group g) after)
+  sound-group : (g after : ℕ) → isGroup g ≡ true → orderFault (st .phase) (length (trees (st .entries))) 0 ≡ 0 → kindFault rules st (Group g) ≡ 0
+      → Sound rules (stateAfter st (Group g) after)
   sound-group g after r o e =
       let p = order-none (st .phase) (length (trees (st .entries))) 0 o .0 in
-      let a = off (leb most (length (st .entries))) 4 _ e in
-      let h = leb-false most (length (st .entries)) (a .0) in
+      let a = off (leb (rules .nodes) (length (st .entries))) 4 _ e in
+      let h = leb-false (rules .nodes) (length (st .entries)) (a .0) in
       let b = off (not (isIn (st .groups) g) && leb mostGroups (length (st .groups))) 5 0 (a .1) in
       sound-entered g after (suc (length (trees (st .entries)))) (withNew (st .groups) g) p h (more-group (st .entries) g r (S .forest))
       (known-more g r) (few (isIn (st .groups) g) (b .0)) (λ x i. is-in-new (st .groups) g x ∙ rw i)
@@ -101,20 +102,20 @@ module _ (most : ℕ) (st : ReadingState) (S : Sound most st) where
       known-more : (g : ℕ) → isGroup g ≡ true → withNew (st .groups) g ≡ collect (collect [] (leavesIn (st .entries))) (leavesIn (g ∷ []))
       known-more g r = ap (λ (l : List ℕ). withNew l g) (S .known) ∙ sym (ap (collect (collect [] (leavesIn (st .entries)))) (leaves-one g (rw r tt)) ∙ collect-one (collect [] (leavesIn (st .entries))) g)
 
-  sound-operator : (x after : ℕ) → InRange (Operator x) → orderFault (st .phase) (length (trees (st .entries))) 0 ≡ 0 → kindFault most st (Operator x) ≡ 0
-      → Sound most (stateAfter st (Operator x) after)
+  sound-operator : (x after : ℕ) → InRange (Operator x) → orderFault (st .phase) (length (trees (st .entries))) 0 ≡ 0 → kindFault rules st (Operator x) ≡ 0
+      → Sound rules (stateAfter st (Operator x) after)
   sound-operator x after r o e =
       let p = order-none (st .phase) (length (trees (st .entries))) 0 o .0 in
       let a = off (ltb (length (trees (st .entries))) 2) 3 _ e in
-      let b = off (leb most (length (st .entries))) 4 0 (a .1) in
-      sound-entered x after (length (trees (st .entries)) - 1) (st .groups) p (leb-false most (length (st .entries)) (b .0))
+      let b = off (leb (rules .nodes) (length (st .entries))) 4 0 (a .1) in
+      sound-entered x after (length (trees (st .entries)) - 1) (st .groups) p (leb-false (rules .nodes) (length (st .entries)) (b .0))
       (more-operator (st .entries) x (r .0) (r .1) (ltb-false (length (trees (st .entries))) 2 (a .0)) (S .forest))
       (S .known ∙ sym (ap (λ (y : ℕ). collect (collect [] (leavesIn (st .entries))) (leavesIn (y ∷ []))) (r .1) ∙ ap (collect (collect [] (leavesIn (st .entries)))) (leaves-sign (r .0)) ∙ collect-none (collect [] (leavesIn (st .entries)))))
       (S .different) (λ g i. i)
 
   -- the tree is over
   sound-over : (phase start : ℕ) (ms : List ℕ) (ls : List LiftLine) → length (trees (st .entries)) ≡ 1 → Distinct ms → ((g : ℕ) → isIn ms g ≡ true → isIn (st .groups) g ≡ true)
-      → Sound most (record { phase = phase; entries = st .entries; groups = st .groups; marks = ms; start = start; lifts = ls })
+      → Sound rules (record { phase = phase; entries = st .entries; groups = st .groups; marks = ms; start = start; lifts = ls })
   sound-over phase start ms ls h d k = record {
     forest = S .forest;
     nodes = S .nodes;
@@ -125,23 +126,23 @@ module _ (most : ℕ) (st : ReadingState) (S : Sound most st) where
     one = λ n. h;
   }
 
-  pub sound-mark : (g after : ℕ) → orderFault (st .phase) (length (trees (st .entries))) 2 ≡ 0 → kindFault most st (Mark g) ≡ 0 → Sound most (stateAfter st (Mark g) after)
+  pub sound-mark : (g after : ℕ) → orderFault (st .phase) (length (trees (st .entries))) 2 ≡ 0 → kindFault rules st (Mark g) ≡ 0 → Sound rules (stateAfter st (Mark g) after)
   sound-mark g after o e = go (isIn (st .groups) g) (isIn (st .marks) g) refl refl e
     where
-      go : (a b : Bool) → isIn (st .groups) g ≡ a → isIn (st .marks) g ≡ b → _≡_ {A = ℕ} (cond a (cond b 9 0) 8) 0 → Sound most (stateAfter st (Mark g) after)
+      go : (a b : Bool) → isIn (st .groups) g ≡ a → isIn (st .marks) g ≡ b → _≡_ {A = ℕ} (cond a (cond b 9 0) 8) 0 → Sound rules (stateAfter st (Mark g) after)
       go false b p q e = absurd (omega arith)
       go true true p q e = absurd (omega arith)
       go true false p q e =
           sound-over 2 (st .start) (st .marks ++ (g ∷ [])) (st .lifts) (one-waits 2 (omega arith) o) (distinct-end (st .marks) g (S .once) q)
           (λ x i. end-cases _ (st .marks) g x i (S .marked x) (λ r. ap (isIn (st .groups)) r ∙ p))
 
-  pub sound-lift : (p n after : ℕ) → orderFault (st .phase) (length (trees (st .entries))) 1 ≡ 0 → Sound most (stateAfter st (Lift p n) after)
+  pub sound-lift : (p n after : ℕ) → orderFault (st .phase) (length (trees (st .entries))) 1 ≡ 0 → Sound rules (stateAfter st (Lift p n) after)
   sound-lift p n after o = sound-over 1 (st .start) (st .marks) _ (one-waits 1 (omega arith) o) (S .once) (S .marked)
 
-  pub sound-end : (after : ℕ) → orderFault (st .phase) (length (trees (st .entries))) 3 ≡ 0 → Sound most (stateAfter st End after)
+  pub sound-end : (after : ℕ) → orderFault (st .phase) (length (trees (st .entries))) 3 ≡ 0 → Sound rules (stateAfter st End after)
   sound-end after o = sound-over ended (st .start) (st .marks) (st .lifts) (one-waits 3 (omega arith) o) (S .once) (S .marked)
 
-  pub sound-next : (l : Line) (after : ℕ) → InRange l → faultOf most st l ≡ 0 → Sound most (stateAfter st l after)
+  pub sound-next : (l : Line) (after : ℕ) → InRange l → faultOf rules st l ≡ 0 → Sound rules (stateAfter st l after)
   unfolding faultOf
   sound-next Bad after r e = absurd (let z : _≡_ {A = ℕ} 2 0 = e in omega arith)
   sound-next (Group g) after r e = let z = first-none _ _ e in sound-group g after r (z .0) (z .1)
@@ -150,9 +151,9 @@ module _ (most : ℕ) (st : ReadingState) (S : Sound most st) where
   sound-next (Mark g) after r e = let z = first-none _ _ e in sound-mark g after (z .0) (z .1)
   sound-next End after r e = sound-end after (first-none _ _ e .0)
 
-pub sound-nothing-read : (most : ℕ) → Sound most nothingRead
+pub sound-nothing-read : (rules : Rules) → Sound rules nothingRead
 unfolding trees pass leavesIn collect Distinct isIn
-sound-nothing-read most = record {
+sound-nothing-read rules = record {
   forest = refl;
   nodes = omega arith;
   known = refl;

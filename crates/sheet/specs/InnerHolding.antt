@@ -11,7 +11,8 @@ use Rattle.tree.specs.InnerGroups.{Distinct, leavesIn}
 use Rattle.tree.specs.Parse.{waiting}
 use Rattle.tree.specs.Writing.{over}
 use Rattle.tree.specs.InnerWriting.{Wrote}
-use Rattle.sheet.specs.Reading.{ReadingState, trees, faultOf, stateAfter, ReadingOutcome, accepted, refused, readWithin}
+use Rattle.sheet.specs.Rules.{Rules}
+use Rattle.sheet.specs.Reading.{ReadingState, trees, faultOf, stateAfter, ReadingOutcome, accepted, refused, readWith}
 use Rattle.sheet.specs.InnerLines.{LiftRange}
 use Rattle.sheet.specs.declared.Line.{Line}
 use Rattle.sheet.specs.declared.Line.the-variants.{Group, Operator, Lift, Mark, End, Bad}
@@ -28,9 +29,9 @@ InRange (Mark g) = isGroup g ≡ true
 InRange End = Unit {0}
 
 -- what each state that reading reaches has
-pub record Sound (most : ℕ) (st : ReadingState) : Type 0 where
+pub record Sound (rules : Rules) (st : ReadingState) : Type 0 where
   pub forest : waiting 0 (st .entries) [] ≡ some (trees (st .entries))
-  pub nodes : length (st .entries) ≤ most
+  pub nodes : length (st .entries) ≤ rules .nodes
   pub known : st .groups ≡ collect [] (leavesIn (st .entries))
   pub different : length (st .groups) ≤ mostGroups
   pub once : Distinct (st .marks)
@@ -38,38 +39,39 @@ pub record Sound (most : ℕ) (st : ReadingState) : Type 0 where
   pub one : (st .phase ≡ 0 → ⊥) → length (trees (st .entries)) ≡ 1
 
 -- the code's numbers and arrays are those of the state: the arrays hold its lists, and 0 past their ends
-pub record Holds (most : ℕ) (st : ReadingState) (p : Progress) (tree groups marks : List ℕ) : Type 0 where
-  pub sound : Sound most st
+pub record Holds (rules : Rules) (st : ReadingState) (p : Progress) (tree groups marks : List ℕ) : Type 0 where
+  pub sound : Sound rules st
   pub fault : p .fault ≡ 0
   pub phase : p .phase ≡ st .phase
   pub waits : p .waiting ≡ length (trees (st .entries))
   pub within : p .waiting ≤ p .nodes
-  pub entries : Wrote (replicate most 0) 0 tree (p .nodes) (st .entries)
+  pub entries : Wrote (replicate (rules .nodes) 0) 0 tree (p .nodes) (st .entries)
   pub known : Wrote (replicate mostGroups 0) 0 groups (p .different) (st .groups)
   pub marked : Wrote (replicate mostGroups 0) 0 marks (p .marked) (st .marks)
   pub start : p .start ≡ st .start
   pub lifts : p .lifts ≡ length (st .lifts)
   pub few : p .lifts ≤ p .line
 
--- they are those of some state
-abbrev pub Holding : ℕ → Progress → List ℕ → List ℕ → List ℕ → Type 0
-Holding most p tree groups marks = (st : ReadingState) × Holds most st p tree groups marks
+-- they are those of some state, by some rules
+abbrev pub Holding : Progress → List ℕ → List ℕ → List ℕ → Type 0
+Holding p tree groups marks = (rules : Rules) × (st : ReadingState) × Holds rules st p tree groups marks
 
 -- r is the progress after a line: its fault, or the state that it leads to
-pub record AfterLine (most : ℕ) (st : ReadingState) (l : Line) (after : ℕ) (p r : Progress) (tree groups marks : List ℕ) : Type 0 where
-  pub fault : r .fault ≡ faultOf most st l
+pub record AfterLine (rules : Rules) (st : ReadingState) (l : Line) (after : ℕ) (p r : Progress) (tree groups marks : List ℕ) : Type 0 where
+  pub fault : r .fault ≡ faultOf rules st l
   pub counted : r .line ≡ p .line + 1
-  pub holds : faultOf most st l ≡ 0 → Holds most (stateAfter st l after) r tree groups marks
+  pub holds : faultOf rules st l ≡ 0 → Holds rules (stateAfter st l after) r tree groups marks
 
--- what reading a line promises: from whatever state p and the arrays hold, r and the arrays afterwards are those after the line
-abbrev pub Leads : ℕ → Line → ℕ → Progress → List ℕ → List ℕ → List ℕ → Progress → List ℕ → List ℕ → List ℕ → Type 0
-Leads most l after p tree groups marks r tree′ groups′ marks′ =
-    (st : ReadingState) → InRange l → Holds most st p tree groups marks → AfterLine most st l after p r tree′ groups′ marks′
+-- what reading a line promises: by whatever rules and from whatever state p and the arrays hold, r and the arrays afterwards are
+-- those after the line
+abbrev pub Leads : Line → ℕ → Progress → List ℕ → List ℕ → List ℕ → Progress → List ℕ → List ℕ → List ℕ → Type 0
+Leads l after p tree groups marks r tree′ groups′ marks′ =
+    (rules : Rules) (st : ReadingState) → InRange l → Holds rules st p tree groups marks → AfterLine rules st l after p r tree′ groups′ marks′
 
 -- r and the arrays are those of an accepted sheet: no fault, the state's numbers, its entries and its marks, and 0 past their ends
-pub record GivesState (most : ℕ) (st : ReadingState) (r : Progress) (tree marks : List ℕ) : Type 0 where
+pub record GivesState (rules : Rules) (st : ReadingState) (r : Progress) (tree marks : List ℕ) : Type 0 where
   pub fault : r .fault ≡ 0
-  pub entries : tree ≡ over (st .entries) (replicate most 0)
+  pub entries : tree ≡ over (st .entries) (replicate (rules .nodes) 0)
   pub nodes : r .nodes ≡ length (st .entries)
   pub marks-are : marks ≡ over (st .marks) (replicate mostGroups 0)
   pub marked : r .marked ≡ length (st .marks)
@@ -83,13 +85,13 @@ pub record GivesFault (number line : ℕ) (r : Progress) : Type 0 where
   pub some : number ≡ 0 → ⊥
 
 -- r and the arrays give an outcome
-abbrev pub Gives : ℕ → ReadingOutcome → Progress → List ℕ → List ℕ → Type 0
-Gives most (accepted st) r tree marks = GivesState most st r tree marks
-Gives most (refused number line) r tree marks = GivesFault number line r
+abbrev pub Gives : Rules → ReadingOutcome → Progress → List ℕ → List ℕ → Type 0
+Gives rules (accepted st) r tree marks = GivesState rules st r tree marks
+Gives rules (refused number line) r tree marks = GivesFault number line r
 
--- r and the arrays give what reading the sheet comes to, where a tree may have `most` nodes
-abbrev pub GivesReading : ℕ → List ℕ → Progress → List ℕ → List ℕ → Type 0
-GivesReading most sheet r tree marks = Gives most (readWithin most sheet) r tree marks
+-- r and the arrays give what reading the sheet by these rules comes to
+abbrev pub GivesReading : Rules → List ℕ → Progress → List ℕ → List ℕ → Type 0
+GivesReading rules sheet r tree marks = Gives rules (readWith rules sheet) r tree marks
 
 -- the answer for an accepted sheet, from the code's numbers and arrays
 abbrev pub acceptedSheet : Progress → List ℕ → List ℕ → Sheet

@@ -1,5 +1,5 @@
 -- Document 01, "The sheet": what reading answers for any bytes, the first fault first. specs/Form.antt has the forms of the lines.
-use mathlib.Core.Bool.{not, cond, _&&_}
+use mathlib.Core.Bool.{Bool, not, cond, _&&_}
 use mathlib.Core.List.{List, [], _∷_, _++_}
 use mathlib.Core.Option.{Option, some, none}
 use Prim.Native.Nat.{ℕ, _+_}
@@ -11,6 +11,7 @@ use Rattle.tree.specs.Writing.{over}
 use Rattle.text.specs.Parts.{Parts, last, part, split}
 use Rattle.text.specs.Line.{lineFeed}
 use Rattle.sheet.specs.Form.{lineOf}
+use Rattle.sheet.specs.Rules.{Rules, sheetRules}
 use Rattle.sheet.specs.declared.Line.{Line}
 use Rattle.sheet.specs.declared.Line.the-variants.{Group, Operator, Lift, Mark, End, Bad}
 use Rattle.sheet.specs.declared.Sheet.{Sheet}
@@ -18,10 +19,6 @@ use Rattle.sheet.specs.declared.Sheet.{Sheet}
 -- "1 (line 0) over 60,000 bytes"
 abbrev pub mostBytes : ℕ
 mostBytes = 60000
-
--- "the tree, at most 1,023 nodes and 8 different groups": of groups it is `mostGroups`, of `tree` specs/Tree.antt
-abbrev pub mostSheetNodes : ℕ
-mostSheetNodes = 1023
 
 -- "`L` position .. levels ..: a lift"
 pub record LiftLine : Type 0 where
@@ -78,20 +75,23 @@ formFault End = 0
 abbrev pub orderFault : ℕ → ℕ → ℕ → ℕ
 orderFault phase many place = cond (ltb place phase) 3 (cond (eqb phase 0 && ltb 0 place && not (eqb many 1)) 7 0)
 
+-- "5 a 1,024th node": the tree has as many nodes as the rules allow
+abbrev pub isFull : Rules → ReadingState → Bool
+isFull rules st = leb (rules .nodes) (length (st .entries))
+
 -- "then by kind, in this order: 4 `U` or `D` with fewer than two trees waiting; 5 a 1,024th node; 6 a ninth different group;
 -- 8 a mark of a group not in the tree; 9 a mark twice"
-abbrev pub kindFault : ℕ → ReadingState → Line → ℕ
-kindFault most st (Operator x) = cond (ltb (length (trees (st .entries))) 2) 4 (cond (leb most (length (st .entries))) 5 0)
-kindFault most st (Group g) =
-    cond (leb most (length (st .entries))) 5 (cond (not (isIn (st .groups) g) && leb mostGroups (length (st .groups))) 6 0)
-kindFault most st (Mark g) = cond (isIn (st .groups) g) (cond (isIn (st .marks) g) 9 0) 8
-kindFault most st (Lift p n) = 0
-kindFault most st End = 0
-kindFault most st Bad = 0
+abbrev pub kindFault : Rules → ReadingState → Line → ℕ
+kindFault rules st (Operator x) = cond (ltb (length (trees (st .entries))) 2) 4 (cond (isFull rules st) 5 0)
+kindFault rules st (Group g) = cond (isFull rules st) 5 (cond (not (isIn (st .groups) g) && leb mostGroups (length (st .groups))) 6 0)
+kindFault rules st (Mark g) = cond (isIn (st .groups) g) (cond (isIn (st .marks) g) 9 0) 8
+kindFault rules st (Lift p n) = 0
+kindFault rules st End = 0
+kindFault rules st Bad = 0
 
--- the first fault of a line, where a tree may have `most` nodes; 0 is none
-unfoldable pub faultOf : ℕ → ReadingState → Line → ℕ
-faultOf most st l = firstFault (formFault l) (firstFault (orderFault (st .phase) (length (trees (st .entries))) (place l)) (kindFault most st l))
+-- the first fault of a line by these rules; 0 is none
+unfoldable pub faultOf : Rules → ReadingState → Line → ℕ
+faultOf rules st l = firstFault (formFault l) (firstFault (orderFault (st .phase) (length (trees (st .entries))) (place l)) (kindFault rules st l))
 
 -- One entry more of the tree; `after` is the byte after its line. So `start` is "the byte after the tree lines, also when there are
 -- no lifts".
@@ -124,21 +124,21 @@ pub data ReadingOutcome : Type 0 where
 -- "Then for each line in order": reading the lines that are left, the first of them at the byte `at`, with n lines passed. "Lines
 -- end in LF (byte 10)": what stands behind the last LF is nothing ("10 when lines are used up without `E`, at the line after the
 -- last"), or "a last one without LF" (2).
-unfoldable pub readLines : ℕ → ReadingState → ℕ → ℕ → Parts → ReadingOutcome
-readLines most st n at (last l) =
+unfoldable pub readLines : Rules → ReadingState → ℕ → ℕ → Parts → ReadingOutcome
+readLines rules st n at (last l) =
     cond (eqb (length l) 0) (cond (eqb (st .phase) ended) (accepted st) (refused 10 (n + 1))) (refused 2 (n + 1))
-readLines most st n at (part l ls) =
-    cond (eqb (faultOf most st (lineOf l)) 0) (readLines most (stateAfter st (lineOf l) (at + length l + 1)) (n + 1) (at + length l + 1) ls)
-    (refused (faultOf most st (lineOf l)) (n + 1))
+readLines rules st n at (part l ls) =
+    cond (eqb (faultOf rules st (lineOf l)) 0) (readLines rules (stateAfter st (lineOf l) (at + length l + 1)) (n + 1) (at + length l + 1) ls)
+    (refused (faultOf rules st (lineOf l)) (n + 1))
 
--- reading a sheet whose tree may have `most` nodes: "1 (line 0) over 60,000 bytes", then its lines. "An empty sheet gets 10 at line
--- 1": its one part is empty.
-unfoldable pub readWithin : ℕ → List ℕ → ReadingOutcome
-readWithin most sheet = cond (ltb mostBytes (length sheet)) (refused 1 0) (readLines most nothingRead 0 0 (split lineFeed sheet))
+-- reading a file by these rules: "1 (line 0) over 60,000 bytes", then its lines. "An empty sheet gets 10 at line 1": its one part is
+-- empty.
+unfoldable pub readWith : Rules → List ℕ → ReadingOutcome
+readWith rules sheet = cond (ltb mostBytes (length sheet)) (refused 1 0) (readLines rules nothingRead 0 0 (split lineFeed sheet))
 
--- reading a sheet, within 01's 1,023 nodes
+-- reading a sheet
 abbrev pub reading : List ℕ → ReadingOutcome
-reading sheet = readWithin mostSheetNodes sheet
+reading sheet = readWith sheetRules sheet
 
 -- "Accepted, reading answers by value the tree, the marks in sheet order, the byte where the lifts begin .. and how many there are;
 -- entries past the tree's and the marks' ends are 0. Refused, everything but number and line is 0. It writes to no lent memory":
@@ -148,7 +148,7 @@ sheetOf (accepted st) =
     record {
       number = 0;
       line = 0;
-      tree = over (st .entries) (replicate mostSheetNodes 0);
+      tree = over (st .entries) (replicate (sheetRules .nodes) 0);
       nodes = length (st .entries);
       marks = over (st .marks) (replicate mostGroups 0);
       marked = length (st .marks);
@@ -156,4 +156,4 @@ sheetOf (accepted st) =
       lifts = length (st .lifts);
     }
 sheetOf (refused number line) =
-    record { number = number; line = line; tree = replicate mostSheetNodes 0; nodes = 0; marks = replicate mostGroups 0; marked = 0; start = 0; lifts = 0 }
+    record { number = number; line = line; tree = replicate (sheetRules .nodes) 0; nodes = 0; marks = replicate mostGroups 0; marked = 0; start = 0; lifts = 0 }

@@ -9,6 +9,7 @@ ghost use Rattle.text.specs.Parts.{part, split};
 ghost use Rattle.text.specs.Line.{tab};
 ghost use Rattle.sheet.specs.Form.{bare, oneNumber, twoNumbers, formOf, lineOf};
 ghost use Rattle.sheet.specs.InnerLines.{lineAt};
+ghost use Rattle.sheet.specs.Rules.{withNodes, sheetRules};
 ghost use Rattle.sheet.specs.Reading.{mostBytes, orderFault, reading, refused, sheetOf};
 ghost use Rattle.tree.specs.Tree.{mostGroups};
 ghost use Rattle.sheet.specs.InnerHolding.{Holding, Leads, GivesReading, acceptedSheet};
@@ -220,8 +221,8 @@ fn order_fault(phase: u8, waiting: usize, place: u8) -> u8
 
 // Reads a line with a group.
 fn group_step(p: Progress, g: u16, after: usize, tree: &mut [u16], groups: &mut [u16]) -> Progress
-    requires { ⌜ (p .line < mostBytes) × ((ms : List ℕ) × Holding (length (now tree)) p (now tree) (now groups) ms) ⌝ }
-    ensures { λ r. ⌜ ((ms : List ℕ) → Leads (length (now (tree .entry))) (Line.Group g) after p (now (tree .entry)) (now (groups .entry)) ms
+    requires { ⌜ (p .line < mostBytes) × ((ms : List ℕ) × Holding p (now tree) (now groups) ms) ⌝ }
+    ensures { λ r. ⌜ ((ms : List ℕ) → Leads (Line.Group g) after p (now (tree .entry)) (now (groups .entry)) ms
         r (now (tree .exit)) (now (groups .exit)) ms) ⌝ }
 {
     let fault = order_fault(p.phase, p.waiting, TREE);
@@ -253,8 +254,8 @@ fn group_step(p: Progress, g: u16, after: usize, tree: &mut [u16], groups: &mut 
 
 // Reads a line with an operator.
 fn operator_step(p: Progress, x: u16, after: usize, tree: &mut [u16]) -> Progress
-    requires { ⌜ (p .line < mostBytes) × ((gs : List ℕ) × (ms : List ℕ) × Holding (length (now tree)) p (now tree) gs ms) ⌝ }
-    ensures { λ r. ⌜ ((gs ms : List ℕ) → Leads (length (now (tree .entry))) (Line.Operator x) after p (now (tree .entry)) gs ms
+    requires { ⌜ (p .line < mostBytes) × ((gs : List ℕ) × (ms : List ℕ) × Holding p (now tree) gs ms) ⌝ }
+    ensures { λ r. ⌜ ((gs ms : List ℕ) → Leads (Line.Operator x) after p (now (tree .entry)) gs ms
         r (now (tree .exit)) gs ms) ⌝ }
 {
     let fault = order_fault(p.phase, p.waiting, TREE);
@@ -280,7 +281,7 @@ fn operator_step(p: Progress, x: u16, after: usize, tree: &mut [u16]) -> Progres
 // Reads a line with a lift.
 fn lift_step(p: Progress) -> Progress
     requires { ⌜ (p .line < mostBytes) × (p .lifts ≤ p .line) ⌝ }
-    ensures { λ r. ⌜ ((most position levels after : ℕ) (es gs ms : List ℕ) → Leads most (Line.Lift position levels) after p es gs ms r es gs ms) ⌝ }
+    ensures { λ r. ⌜ ((position levels after : ℕ) (es gs ms : List ℕ) → Leads (Line.Lift position levels) after p es gs ms r es gs ms) ⌝ }
 {
     let fault = order_fault(p.phase, p.waiting, LIFTS);
     if fault != 0 {
@@ -295,8 +296,8 @@ fn lift_step(p: Progress) -> Progress
 
 // Reads a line with a mark.
 fn mark_step(p: Progress, g: u16, groups: &[u16], marks: &mut [u16]) -> Progress
-    requires { ⌜ (p .line < mostBytes) × ((most : ℕ) × (es : List ℕ) × Holding most p es (now groups) (now marks)) ⌝ }
-    ensures { λ r. ⌜ ((most after : ℕ) (es : List ℕ) → Leads most (Line.Mark g) after p es (now (groups .entry)) (now (marks .entry))
+    requires { ⌜ (p .line < mostBytes) × ((es : List ℕ) × Holding p es (now groups) (now marks)) ⌝ }
+    ensures { λ r. ⌜ ((after : ℕ) (es : List ℕ) → Leads (Line.Mark g) after p es (now (groups .entry)) (now (marks .entry))
         r es (now (groups .entry)) (now (marks .exit))) ⌝ }
 {
     let fault = order_fault(p.phase, p.waiting, MARKS);
@@ -322,7 +323,7 @@ fn mark_step(p: Progress, g: u16, groups: &[u16], marks: &mut [u16]) -> Progress
 // Reads the end.
 fn end_step(p: Progress) -> Progress
     requires { ⌜ p .line < mostBytes ⌝ }
-    ensures { λ r. ⌜ ((most after : ℕ) (es gs ms : List ℕ) → Leads most Line.End after p es gs ms r es gs ms) ⌝ }
+    ensures { λ r. ⌜ ((after : ℕ) (es gs ms : List ℕ) → Leads Line.End after p es gs ms r es gs ms) ⌝ }
 {
     let fault = order_fault(p.phase, p.waiting, END);
     if fault != 0 {
@@ -343,8 +344,8 @@ fn step(
     groups: &mut [u16],
     marks: &mut [u16],
 ) -> Progress
-    requires { ⌜ (p .line < mostBytes) × Holding (length (now tree)) p (now tree) (now groups) (now marks) ⌝ }
-    ensures { λ r. ⌜ Leads (length (now (tree .entry))) line after p (now (tree .entry)) (now (groups .entry)) (now (marks .entry))
+    requires { ⌜ (p .line < mostBytes) × Holding p (now tree) (now groups) (now marks) ⌝ }
+    ensures { λ r. ⌜ Leads line after p (now (tree .entry)) (now (groups .entry)) (now (marks .entry))
         r (now (tree .exit)) (now (groups .exit)) (now (marks .exit)) ⌝ }
 {
     match line {
@@ -360,7 +361,7 @@ fn step(
 // Reads the lines of a sheet into `tree` and `marks`, which hold zeros. The tree may have as many nodes as `tree` has room.
 fn read_lines(sheet: &[u8], tree: &mut [u16], marks: &mut [u16]) -> Progress
     requires { ⌜ (now tree ≡ replicate (length (now tree)) 0) × (now marks ≡ replicate mostGroups 0) ⌝ }
-    ensures { λ r. ⌜ GivesReading (length (now (tree .entry))) (now (sheet .entry)) r (now (tree .exit)) (now (marks .exit)) ⌝ }
+    ensures { λ r. ⌜ GivesReading (withNodes (length (now (tree .entry))) sheetRules) (now (sheet .entry)) r (now (tree .exit)) (now (marks .exit)) ⌝ }
 {
     let mut p = Progress {
         fault: 0,

@@ -13,13 +13,13 @@ faulty-requires : tie.Need-faulty-requires
 faulty-requires c κs = search needs
 
 returns : tie.Need-returns
-returns c = λ most after es gs ms st r h. stepped-faulty h End after _ _ _ _ _ (c .faulty .ensures) (fault-end h ∙ order-first _ _ _ (c .before .before .order-fault .ensures) (c .before .if1 .taken)) (c .before .if1 .taken)
+returns c = λ after es gs ms rules st r h. stepped-faulty h End after _ _ _ _ _ (c .faulty .ensures) (fault-end h ∙ order-first _ _ _ (c .before .before .order-fault .ensures) (c .before .if1 .taken)) (c .before .if1 .taken)
 
 add-q : tie.Need-add-q
 add-q c = search needs
 
 returns-2 : tie.Need-returns-2
-returns-2 c = λ most after es gs ms st r h. stepped-end h after (fault-end h ∙ order-second _ _ _ (c .before .before .order-fault .ensures) (c .before .if1 .left))
+returns-2 c = λ after es gs ms rules st r h. stepped-end h after (fault-end h ∙ order-second _ _ _ (c .before .before .order-fault .ensures) (c .before .if1 .left))
 
 pub end-step-spec : {M : Type 1} → statement M
 end-step-spec = tie.close (tie.spec order-fault-requires faulty-requires returns add-q returns-2)

@@ -19,7 +19,7 @@ faulty-requires c κs = search needs
 returns : tie.Need-returns
 returns c =
     let args = c .before .before .before .before .before .args in
-    λ ms st r h. stepped-faulty h (Group (args .g)) _ _ _ _ _ _ (c .faulty .ensures) (fault-group h _ ∙ order-first _ _ _ (c .before .before .order-fault .ensures) (c .before .if1 .taken)) (c .before .if1 .taken)
+    λ ms rules st r h. stepped-faulty h (Group (args .g)) _ _ _ _ _ _ (c .faulty .ensures) (fault-group h _ ∙ order-first _ _ _ (c .before .before .order-fault .ensures) (c .before .if1 .taken)) (c .before .if1 .taken)
 
 faulty-requires-2 : tie.Need-faulty-requires-2
 faulty-requires-2 c κs = search needs
@@ -28,7 +28,7 @@ returns-2 : tie.Need-returns-2
 returns-2 c =
     let args = c .before .before .before .before .before .before .args in
     let order-fault = c .before .before .before .order-fault in
-    λ ms st r h. stepped-faulty h (Group (args .g)) _ _ _ _ _ _ (c .faulty2 .ensures) (fault-group h _ ∙ (order-second _ _ _ (order-fault .ensures) (c .before .before .if1 .left) ∙ rw (le-leb _ _ (c .before .if2 .taken)))) (λ z. omega arith)
+    λ ms rules st r h. stepped-faulty h (Group (args .g)) _ _ _ _ _ _ (c .faulty2 .ensures) (fault-group h _ ∙ (order-second _ _ _ (order-fault .ensures) (c .before .before .if1 .left) ∙ rw (le-leb _ _ (c .before .if2 .taken)))) (λ z. omega arith)
 
 add-q : tie.Need-add-q
 add-q c = search needs
@@ -45,7 +45,7 @@ slice-reshare-prefix-is-in c = search needs
 slice-aggregate-is-in : tie.Need-slice-aggregate-is-in
 slice-aggregate-is-in c =
     let pre = c .before .before .before .before .before .before .before .before .pre in
-    sym (length-take-le _ _ (different-few (pre .1 .1 .1)))
+    sym (length-take-le _ _ (different-few (pre .1 .1 .2)))
 
 is-in-requires : tie.Need-is-in-requires
 is-in-requires c κs = search needs
@@ -68,7 +68,7 @@ returns-3 c =
     let order-fault = c .before .before .before .before .before .before .before .order-fault in
     let if1 = c .before .before .before .before .before .before .if1 in
     let if2 = c .before .before .before .before .before .if2 in
-    λ ms st r h. let i = sym (c .before .is-in .ensures) ∙ c .if3 .taken in
+    λ ms rules st r h. let i = sym (c .before .is-in .ensures) ∙ c .if3 .taken in
     stepped-group-old h (args .g) _ r (fault-group h _ ∙ (order-second _ _ _ (order-fault .ensures) (if1 .left) ∙ rw (lt-leb _ _ (if2 .left), i))) i
 
 faulty-requires-3 : tie.Need-faulty-requires-3
@@ -84,7 +84,7 @@ returns-4 c =
     let if1 = c .before .before .before .before .before .before .before .before .if1 in
     let if2 = c .before .before .before .before .before .before .before .if2 in
     let is-in = c .before .before .before .is-in in
-    λ ms st r h. let i = sym (is-in .ensures) ∙ c .before .before .if3 .left in
+    λ ms rules st r h. let i = sym (is-in .ensures) ∙ c .before .before .if3 .left in
     stepped-faulty h (Group (args .g)) _ _ _ _ _ _ (c .faulty3 .ensures) (fault-group h _ ∙ (order-second _ _ _ (order-fault .ensures) (if1 .left) ∙ rw (lt-leb _ _ (if2 .left), i, le-leb mostGroups (args .p .different) (omega arith)))) (λ z. omega arith)
 
 mul-tree-2 : tie.Need-mul-tree-2
@@ -114,7 +114,7 @@ returns-5 c =
     let order-fault = c .before .before .before .before .before .before .before .before .order-fault in
     let if1 = c .before .before .before .before .before .before .before .if1 in
     let if2 = c .before .before .before .before .before .before .if2 in
-    λ ms st r h. let i = sym (c .before .before .is-in .ensures) ∙ c .before .if3 .left in
+    λ ms rules st r h. let i = sym (c .before .before .is-in .ensures) ∙ c .before .if3 .left in
     stepped-group-new h (args .g) _ r (fault-group h _ ∙ (order-second _ _ _ (order-fault .ensures) (if1 .left) ∙ rw (lt-leb _ _ (if2 .left), i, lt-leb mostGroups (args .p .different) (omega arith)))) i
 
 pub group-step-spec : {M : Type 1} → statement M

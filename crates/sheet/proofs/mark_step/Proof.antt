@@ -5,6 +5,7 @@ use mathlib.Core.List.{List}
 use native.Mathlib.Omega.{arith}
 use lib.ListN.{length}
 use lib.Seq.{length-take-le}
+use Rattle.sheet.specs.Rules.{Rules}
 use Rattle.sheet.specs.Reading.{ReadingState, faultOf}
 use Rattle.sheet.specs.InnerHolding.{Holds}
 use Rattle.sheet.specs.declared.Line.the-variants.{Mark}
@@ -14,10 +15,10 @@ use Rattle.sheet.proofs.mark_step.Statement.{statement}
 use Rattle.sheet.proofs.mark_step.Tie as tie
 
 -- after both searches the mark has no fault, and so there is room for it
-no-fault : (c : tie.After-struct-known) (most : ℕ) (st : ReadingState) (es : List ℕ)
-    → Holds most st (c .before .before .before .before .before .before .before .before .before .before .before .args .p) es (c .before .before .before .before .before .before .before .before .before .before .before .args .groups .now) (c .before .before .before .before .before .before .before .before .before .before .before .args .marks .now)
-    → faultOf most st (Mark (c .before .before .before .before .before .before .before .before .before .before .before .args .g)) ≡ 0
-no-fault c most st es h =
+no-fault : (c : tie.After-struct-known) (rules : Rules) (st : ReadingState) (es : List ℕ)
+    → Holds rules st (c .before .before .before .before .before .before .before .before .before .before .before .args .p) es (c .before .before .before .before .before .before .before .before .before .before .before .args .groups .now) (c .before .before .before .before .before .before .before .before .before .before .before .args .marks .now)
+    → faultOf rules st (Mark (c .before .before .before .before .before .before .before .before .before .before .before .args .g)) ≡ 0
+no-fault c rules st es h =
     let order-fault = c .before .before .before .before .before .before .before .before .order-fault in
     let if1 = c .before .before .before .before .before .before .before .if1 in
     let is-in = c .before .before .before .before .before .is-in in
@@ -31,7 +32,7 @@ room : (c : tie.After-struct-known)
 room c =
     let pre = c .before .before .before .before .before .before .before .before .before .before .before .pre in
     let q = pre .1 in
-    mark-room (q .2 .1) _ (no-fault c (q .0) (q .2 .0) (q .1) (q .2 .1))
+    mark-room (q .1 .2) _ (no-fault c (q .1 .0) (q .1 .1) (q .0) (q .1 .2))
 
 order-fault-requires : tie.Need-order-fault-requires
 order-fault-requires c κs = search needs
@@ -42,12 +43,12 @@ faulty-requires c κs = search needs
 returns : tie.Need-returns
 returns c =
     let args = c .before .before .before .before .before .args in
-    λ most after es st r h. stepped-faulty h (Mark (args .g)) _ _ _ _ _ _ (c .faulty .ensures) (fault-mark h _ ∙ order-first _ _ _ (c .before .before .order-fault .ensures) (c .before .if1 .taken)) (c .before .if1 .taken)
+    λ after es rules st r h. stepped-faulty h (Mark (args .g)) _ _ _ _ _ _ (c .faulty .ensures) (fault-mark h _ ∙ order-first _ _ _ (c .before .before .order-fault .ensures) (c .before .if1 .taken)) (c .before .if1 .taken)
 
 slice-aggregate-is-in : tie.Need-slice-aggregate-is-in
 slice-aggregate-is-in c =
     let pre = c .before .before .before .before .before .pre in
-    sym (length-take-le _ _ (different-few (pre .1 .2 .1)))
+    sym (length-take-le _ _ (different-few (pre .1 .1 .2)))
 
 is-in-requires : tie.Need-is-in-requires
 is-in-requires c κs = search needs
@@ -55,12 +56,12 @@ is-in-requires c κs = search needs
 slice-reshare-prefix-is-in : tie.Need-slice-reshare-prefix-is-in
 slice-reshare-prefix-is-in c =
     let pre = c .before .before .before .before .before .before .before .pre in
-    marked-few (pre .1 .2 .1)
+    marked-few (pre .1 .1 .2)
 
 slice-aggregate-is-in-2 : tie.Need-slice-aggregate-is-in-2
 slice-aggregate-is-in-2 c =
     let pre = c .before .before .before .before .before .before .before .before .pre in
-    sym (length-take-le _ _ (marked-few (pre .1 .2 .1)))
+    sym (length-take-le _ _ (marked-few (pre .1 .1 .2)))
 
 is-in-requires-2 : tie.Need-is-in-requires-2
 is-in-requires-2 c κs = search needs
@@ -78,7 +79,7 @@ returns-2 c =
     let if1 = c .before .before .before .before .before .before .before .if1 in
     let is-in = c .before .before .before .before .before .is-in in
     let if2 = c .before .before .before .before .if2 in
-    λ most after es st r h. let i = sym (is-in .ensures) ∙ if2 .taken in let j = sym (c .before .before .is-in2 .ensures) ∙ c .before .if3 .taken in
+    λ after es rules st r h. let i = sym (is-in .ensures) ∙ if2 .taken in let j = sym (c .before .before .is-in2 .ensures) ∙ c .before .if3 .taken in
     stepped-faulty h (Mark (args .g)) _ _ _ _ _ _ (c .faulty2 .ensures) (fault-mark h _ ∙ (order-second _ _ _ (order-fault .ensures) (if1 .left) ∙ rw (i, j))) (λ z. omega arith)
 
 add-q : tie.Need-add-q
@@ -87,12 +88,12 @@ add-q c = search needs
 add-q-2 : tie.Need-add-q-2
 add-q-2 c =
     let pre = c .before .before .before .before .before .before .before .before .before .before .before .pre in
-    omega (arith, room c, marks-long (pre .1 .2 .1))
+    omega (arith, room c, marks-long (pre .1 .1 .2))
 
 mul-marks : tie.Need-mul-marks
 mul-marks c =
     let pre = c .before .before .before .before .before .before .before .before .before .before .before .pre in
-    omega (arith, room c, marks-long (pre .1 .2 .1))
+    omega (arith, room c, marks-long (pre .1 .1 .2))
 
 slice-write-marks : tie.Need-slice-write-marks
 slice-write-marks c = omega (arith, room c)
@@ -103,7 +104,7 @@ same-length-2 c = search needs
 returns-3 : tie.Need-returns-3
 returns-3 c =
     let args = c .before .before .before .before .before .before .before .before .before .before .before .args in
-    λ most after es st r h. stepped-mark h (args .g) after (no-fault c most st es h)
+    λ after es rules st r h. stepped-mark h (args .g) after (no-fault c rules st es h)
 
 faulty-requires-3 : tie.Need-faulty-requires-3
 faulty-requires-3 c κs = search needs
@@ -113,7 +114,7 @@ returns-4 c =
     let args = c .before .before .before .before .before .before .before .before .args in
     let order-fault = c .before .before .before .before .before .order-fault in
     let if1 = c .before .before .before .before .if1 in
-    λ most after es st r h. let i = sym (c .before .before .is-in .ensures) ∙ c .before .if2 .left in
+    λ after es rules st r h. let i = sym (c .before .before .is-in .ensures) ∙ c .before .if2 .left in
     stepped-faulty h (Mark (args .g)) _ _ _ _ _ _ (c .faulty3 .ensures) (fault-mark h _ ∙ (order-second _ _ _ (order-fault .ensures) (if1 .left) ∙ rw i)) (λ z. omega arith)
 
 pub mark-step-spec : {M : Type 1} → statement M

@@ -17,7 +17,7 @@ faulty-requires c κs = search needs
 returns : tie.Need-returns
 returns c =
     let args = c .before .before .before .before .args in
-    λ gs ms st r h. stepped-faulty h (Operator (args .x)) _ _ _ _ _ _ (c .faulty .ensures) (fault-operator h _ ∙ order-first _ _ _ (c .before .before .order-fault .ensures) (c .before .if1 .taken)) (c .before .if1 .taken)
+    λ gs ms rules st r h. stepped-faulty h (Operator (args .x)) _ _ _ _ _ _ (c .faulty .ensures) (fault-operator h _ ∙ order-first _ _ _ (c .before .before .order-fault .ensures) (c .before .if1 .taken)) (c .before .if1 .taken)
 
 faulty-requires-2 : tie.Need-faulty-requires-2
 faulty-requires-2 c κs = search needs
@@ -27,7 +27,7 @@ returns-2 c =
     let args = c .before .before .before .before .before .before .args in
     let order-fault = c .before .before .before .before .order-fault in
     let if1 = c .before .before .before .if1 in
-    λ gs ms st r h. stepped-faulty h (Operator (args .x)) _ _ _ _ _ _ (c .faulty2 .ensures) (fault-operator h _ ∙ (order-second _ _ _ (order-fault .ensures) (if1 .left) ∙ rw (lt-ltb _ _ (c .before .if2 .taken)))) (λ z. omega arith)
+    λ gs ms rules st r h. stepped-faulty h (Operator (args .x)) _ _ _ _ _ _ (c .faulty2 .ensures) (fault-operator h _ ∙ (order-second _ _ _ (order-fault .ensures) (if1 .left) ∙ rw (lt-ltb _ _ (c .before .if2 .taken)))) (λ z. omega arith)
 
 faulty-requires-3 : tie.Need-faulty-requires-3
 faulty-requires-3 c κs = search needs
@@ -37,7 +37,7 @@ returns-3 c =
     let args = c .before .before .before .before .before .before .before .args in
     let order-fault = c .before .before .before .before .before .order-fault in
     let if1 = c .before .before .before .before .if1 in
-    λ gs ms st r h. stepped-faulty h (Operator (args .x)) _ _ _ _ _ _ (c .faulty3 .ensures) (fault-operator h _ ∙ (order-second _ _ _ (order-fault .ensures) (if1 .left) ∙ rw (le-ltb _ _ (c .before .before .if2 .left), le-leb _ _ (c .before .if3 .taken)))) (λ z. omega arith)
+    λ gs ms rules st r h. stepped-faulty h (Operator (args .x)) _ _ _ _ _ _ (c .faulty3 .ensures) (fault-operator h _ ∙ (order-second _ _ _ (order-fault .ensures) (if1 .left) ∙ rw (le-ltb _ _ (c .before .before .if2 .left), le-leb _ _ (c .before .if3 .taken)))) (λ z. omega arith)
 
 add-q : tie.Need-add-q
 add-q c = search needs
@@ -63,7 +63,7 @@ returns-4 c =
     let order-fault = c .before .before .before .before .before .before .order-fault in
     let if1 = c .before .before .before .before .before .if1 in
     let if2 = c .before .before .before .if2 in
-    λ gs ms st r h. stepped-operator h (args .x) _ r (fault-operator h _ ∙ (order-second _ _ _ (order-fault .ensures) (if1 .left) ∙ rw (le-ltb _ _ (if2 .left), lt-leb _ _ (c .before .before .if3 .left)))) (if2 .left)
+    λ gs ms rules st r h. stepped-operator h (args .x) _ r (fault-operator h _ ∙ (order-second _ _ _ (order-fault .ensures) (if1 .left) ∙ rw (le-ltb _ _ (if2 .left), lt-leb _ _ (c .before .before .if3 .left)))) (if2 .left)
 
 pub operator-step-spec : {M : Type 1} → statement M
 operator-step-spec =

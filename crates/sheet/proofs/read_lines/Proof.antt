@@ -3,33 +3,34 @@ use mathlib.Core.Path.{_≡_, refl, sym, ap, _∙_}
 use Prim.Native.Nat.{_≤_, _-_}
 use native.Mathlib.Omega.{arith}
 use lib.ListN.{length}
+use Rattle.sheet.specs.Rules.{withNodes, sheetRules}
 use Rattle.sheet.specs.Reading.{mostBytes}
 use Rattle.sheet.specs.InnerLines.{lineAt}
 use Rattle.sheet.specs.InnerHolding.{AfterLine}
 use Rattle.sheet.proofs.LineAtLaws.{line-at-range, OneLine, one-line}
 use Rattle.sheet.proofs.HoldLaws.{tree-long, marks-long, groups-long, holds-gives}
-use Rattle.sheet.proofs.LoopLaws.{Running, running-nothing-read, read-long, held-own, stepped-own, running-refused, running-next, running-accepted, running-open}
+use Rattle.sheet.proofs.LoopLaws.{Running, running-nothing-read, read-long, running-refused, running-next, running-accepted, running-open}
 use Rattle.sheet.proofs.read_lines.Statement.{statement}
 use Rattle.sheet.proofs.read_lines.Tie as tie
 
 abbrev Inv-loop : tie.InvT-loop
-Inv-loop sheet tree₀ marks₀ p₀ groups₀ at₀ tree marks p groups at = (length sheet ≤ mostBytes) × (at ≤ length sheet) × (p .line ≤ at) × Running (length tree₀) sheet p tree groups marks at
+Inv-loop sheet tree₀ marks₀ p₀ groups₀ at₀ tree marks p groups at = (length sheet ≤ mostBytes) × (at ≤ length sheet) × (p .line ≤ at) × Running (withNodes (length tree₀) sheetRules) sheet p tree groups marks at
 
 abbrev μ-loop : tie.MeasureT-loop
 μ-loop sheet tree₀ marks₀ p₀ groups₀ at₀ tree marks p groups at = length sheet - at
 
 -- after a line's step: the line at the byte, and what the step did
-one-read : (c : tie.After-step Inv-loop μ-loop) → OneLine 0 (c .before .before .before .before .before .before .before .before .before .before .before .args .sheet .now) (c .before .before .before .before .before .before .loop .at) (c .before .before .before .before .line-at .result)
+one-read : (c : tie.After-step Inv-loop μ-loop) → OneLine (c .before .before .before .before .before .before .before .before .before .before .before .args .sheet .now) (c .before .before .before .before .before .before .loop .at) (c .before .before .before .before .line-at .result)
 one-read c =
     let args = c .before .before .before .before .before .before .before .before .before .before .before .args in
     let loop = c .before .before .before .before .before .before .loop in
     let loop-test = c .before .before .before .before .before .loop-test in
     let line-at = c .before .before .before .before .line-at in
-    rw (← line-at .ensures) at (one-line 0 (args .sheet .now) (loop .at) (loop-test .taken))
+    rw (← line-at .ensures) at (one-line (args .sheet .now) (loop .at) (loop-test .taken))
 
 stepped : (c : tie.After-step Inv-loop μ-loop)
     → let s = c .before .before .before .before .before .before .before .before .before .before .before .args .sheet .now in let at = c .before .before .before .before .before .before .loop .at in
-    AfterLine (length (c .before .before .before .before .before .before .before .before .before .before .before .args .tree .now)) (c .before .before .before .before .before .before .loop .inv .3 .st) (lineAt s at .line) (lineAt s at .next) (c .before .before .before .before .before .before .loop .p) (c .step .result)
+    AfterLine (withNodes (length (c .before .before .before .before .before .before .before .before .before .before .before .args .tree .now)) sheetRules) (c .before .before .before .before .before .before .loop .inv .3 .st) (lineAt s at .line) (lineAt s at .next) (c .before .before .before .before .before .before .loop .p) (c .step .result)
     (c .step .last .1 .1 .1 .0) (c .step .last .1 .1 .1 .1 .0) (c .step .last .1 .1 .1 .1 .1 .0)
 stepped c =
     let args = c .before .before .before .before .before .before .before .before .before .before .before .args in
@@ -39,7 +40,7 @@ stepped c =
     let at = loop .at in
     let R = loop .inv .3 in
     let e = line-at .ensures in
-    rw e at (stepped-own (line-at .result .line) (line-at .result .next) (R .held) (c .step .ensures (R .st) (rw e (line-at-range s at)) (held-own (R .held))))
+    rw e at (c .step .ensures _ (R .st) (rw e (line-at-range s at)) (R .held))
 
 marks-were : (c : tie.After-step Inv-loop μ-loop) → length (c .before .before .before .before .before .before .loop .marks) ≡ length (c .before .before .before .before .before .before .before .before .before .before .before .args .marks .now)
 marks-were c =
@@ -67,7 +68,7 @@ step-requires : tie.Need-step-requires Inv-loop μ-loop
 step-requires c κs =
     let loop = c .before .before .before .before .before .loop in
     let loop-test = c .before .before .before .before .loop-test in
-    (omega (arith, loop .inv .0, loop .inv .2, loop-test .taken), (loop .inv .3 .st, held-own (loop .inv .3 .held)))
+    (omega (arith, loop .inv .0, loop .inv .2, loop-test .taken), (_, loop .inv .3 .st, loop .inv .3 .held))
 
 same-length : tie.Need-same-length Inv-loop μ-loop
 same-length c =

@@ -43,7 +43,7 @@ end-step-requires : tie.Need-end-step-requires
 end-step-requires c κs = search needs
 
 returns : tie.Need-returns
-returns c = λ st r h. rw (c .before .enum-told .given .1) (stepped-faulty h Bad _ _ _ _ _ _ (c .faulty .ensures) (fault-bad h) (λ z. omega arith))
+returns c = λ rules st r h. rw (c .before .enum-told .given .1) (stepped-faulty h Bad _ _ _ _ _ _ (c .faulty .ensures) (fault-bad h) (λ z. omega arith))
 
 same-length : tie.Need-same-length
 same-length c = search needs
@@ -55,7 +55,7 @@ returns-2 : tie.Need-returns-2
 returns-2 c =
     let line = c .before .before .before .before .before .before .before .before .line in
     let group-step = c .before .before .before .before .group-step in
-    λ st r h. let e = line .given .1 in rw e (group-step .ensures _ st (rw e at r) h)
+    λ rules st r h. let e = line .given .1 in rw e (group-step .ensures _ rules st (rw e at r) h)
 
 same-length-3 : tie.Need-same-length-3
 same-length-3 c = search needs
@@ -63,10 +63,10 @@ same-length-3 c = search needs
 returns-3 : tie.Need-returns-3
 returns-3 c =
     let line2 = c .before .before .before .before .before .line2 in
-    λ st r h. let e = line2 .given .1 in rw e (c .before .before .operator-step .ensures _ _ st (rw e at r) h)
+    λ rules st r h. let e = line2 .given .1 in rw e (c .before .before .operator-step .ensures _ _ rules st (rw e at r) h)
 
 returns-4 : tie.Need-returns-4
-returns-4 c = λ st r h. let e = c .before .enum-told2 .given .1 in rw e (c .lift-step .ensures _ _ _ _ _ _ _ st (rw e at r) h)
+returns-4 c = λ rules st r h. let e = c .before .enum-told2 .given .1 in rw e (c .lift-step .ensures _ _ _ _ _ _ rules st (rw e at r) h)
 
 same-length-4 : tie.Need-same-length-4
 same-length-4 c = search needs
@@ -77,10 +77,10 @@ same-length-5 c = search needs
 returns-5 : tie.Need-returns-5
 returns-5 c =
     let line3 = c .before .before .before .before .before .before .line3 in
-    λ st r h. let e = line3 .given .1 in rw e (c .before .before .mark-step .ensures _ _ _ st (rw e at r) h)
+    λ rules st r h. let e = line3 .given .1 in rw e (c .before .before .mark-step .ensures _ _ rules st (rw e at r) h)
 
 returns-6 : tie.Need-returns-6
-returns-6 c = λ st r h. rw (c .before .enum-told3 .given .1) (c .end-step .ensures _ _ _ _ _ st tt h)
+returns-6 c = λ rules st r h. rw (c .before .enum-told3 .given .1) (c .end-step .ensures _ _ _ _ rules st tt h)
 
 pub step-spec : {M : Type 1} → statement M
 step-spec =

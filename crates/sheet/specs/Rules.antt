@@ -1,0 +1,15 @@
+-- What reading may differ in, from one request to the next and from one file to another.
+use Prim.Native.Nat.{ℕ}
+
+pub record Rules : Type 0 where
+  -- how many nodes the tree may have
+  pub nodes : ℕ
+
+-- the same rules with another number of nodes, which is all that rules have yet
+abbrev pub withNodes : ℕ → Rules → Rules
+withNodes n rules = record { nodes = n }
+
+-- the rules for a sheet: "the tree, at most 1,023 nodes and 8 different groups" (of groups it is `mostGroups`, of `tree`
+-- specs/Tree.antt)
+abbrev pub sheetRules : Rules
+sheetRules = record { nodes = 1023 }
