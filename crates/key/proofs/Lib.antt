@@ -3,5 +3,6 @@ pub mod GatheringLaws
 pub mod EncodingLaws
 pub mod FinishLaws
 pub mod DemandLaws
+pub mod SameKeyLaws
 pub mod SampleLaws
 pub mod AnswerLaws

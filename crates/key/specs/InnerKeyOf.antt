@@ -14,7 +14,8 @@ use Rattle.code.specs.Code.{code}
 use Rattle.coder.specs.Coding.{codeOfList, runOf}
 use Rattle.coder.specs.declared.Run.{Run}
 use Rattle.gather.specs.InnerGathered.{gatheredBy, holderOf}
-use Rattle.sheet.specs.Reading.{ReadingState, ReadingOutcome, accepted, refused, reading}
+use Rattle.sheet.specs.Rules.{Rules, sheetRules}
+use Rattle.sheet.specs.Reading.{ReadingState, ReadingOutcome, accepted, refused, readWith}
 use Rattle.printing.specs.Key.{Held, unmarked, heldRun, cannot, Key, refusal, answers, text}
 use Rattle.lift_lines.specs.Lifting.{treeAfter, liftAnswers}
 use Rattle.key.specs.Call.{keyBytes, keySays}
@@ -57,8 +58,12 @@ keyFor (accepted st) = keyIn st (treeOf (st .entries))
 unfoldable pub keyBy : ReadingOutcome → List ℕ
 keyBy o = text (keyFor o)
 
+-- of a sheet that is read by these rules, and by today's
+abbrev pub keyWith : Rules → List ℕ → List ℕ
+keyWith rules sheet = keyBy (readWith rules sheet)
+
 abbrev pub keyOf : List ℕ → List ℕ
-keyOf sheet = keyBy (reading sheet)
+keyOf sheet = keyWith sheetRules sheet
 
 -- where the buffer is long enough, it is these that are written
 pub record KeyBy (sheet out : List ℕ) (r : KeyAnswer) (out′ : List ℕ) : Type 0 where

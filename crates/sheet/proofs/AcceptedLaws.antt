@@ -27,7 +27,7 @@ use Rattle.sheet.specs.declared.Line.{Line}
 use Rattle.sheet.specs.declared.Line.the-variants.{Group, Operator, Lift, Mark, End, Bad}
 use Rattle.sheet.proofs.EntriesLaws.{one-tree}
 use Rattle.sheet.proofs.LineAtLaws.{line-at-range, one-line, lines-end}
-use Rattle.sheet.proofs.SoundLaws.{order-none, order-of, sound-next, sound-nothing-read}
+use Rattle.sheet.proofs.SoundLaws.{order-none, none-of, bad-fault, sound-next, sound-nothing-read}
 use Rattle.sheet.proofs.HoldLaws.{marks-few}
 
 -- what reading accepted: one tree within the limits, marks that are groups of it, each once, and lifts that stand line by line
@@ -44,7 +44,7 @@ pub record Accepted (sheet : List ℕ) (st : ReadingState) : Type 0 where
   pub end : ℕ
   pub asked : LiftsTo sheet (st .start) (st .lifts) end
 
-no-outcome : {st : ReadingState} {n line : ℕ} {X : Type 0} → refused n line ≡ accepted st → X
+pub no-outcome : {st : ReadingState} {n line : ℕ} {X : Type 0} → refused n line ≡ accepted st → X
 no-outcome e = absurd (let z : _≡_ {A = ℕ} 0 1 = cc in omega arith)
 
 -- ---- the lifts read so far: the byte after them is the next line's until a mark or the end comes
@@ -77,11 +77,11 @@ path-over s st at after phase ms p h =
 
 path-next : (rules : Rules) (s : List ℕ) (st : ReadingState) (at : ℕ) (l : Line) → Path s st at → lineAt s at .line ≡ l → InRange l → faultOf rules st l ≡ 0
     → Path s (stateAfter st l (lineAt s at .next)) (lineAt s at .next)
-path-next rules s st at Bad p q r e = absurd (unfold faultOf in let z : _≡_ {A = ℕ} 2 0 = e in omega arith)
-path-next rules s st at (Group g) p q r e = path-entered s st at g _ _ p (order-none (st .phase) (length (trees (st .entries))) 0 (order-of rules st (Group g) e) .0)
-path-next rules s st at (Operator x) p q r e = path-entered s st at x _ _ p (order-none (st .phase) (length (trees (st .entries))) 0 (order-of rules st (Operator x) e) .0)
+path-next rules s st at Bad p q r e = absurd (bad-fault rules st e)
+path-next rules s st at (Group g) p q r e = path-entered s st at g _ _ p (order-none (st .phase) (length (trees (st .entries))) 0 (none-of rules st (Group g) e .0) .0)
+path-next rules s st at (Operator x) p q r e = path-entered s st at x _ _ p (order-none (st .phase) (length (trees (st .entries))) 0 (none-of rules st (Operator x) e .0) .0)
 path-next rules s st at (Lift k n) p q r e =
-    let h : p .to ≡ at = p .here (order-none (st .phase) (length (trees (st .entries))) 1 (order-of rules st (Lift k n) e) .0) in
+    let h : p .to ≡ at = p .here (order-none (st .phase) (length (trees (st .entries))) 1 (none-of rules st (Lift k n) e .0) .0) in
     record {
       to = lineAt s at .next;
       lifts = lifts-snoc s (st .start) at (st .lifts) (record { position = k; levels = n }) (rw h at (p .lifts)) q r;

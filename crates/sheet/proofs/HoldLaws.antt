@@ -12,13 +12,13 @@ use Rattle.tree.specs.InnerWriting.{Wrote}
 use Rattle.tree.proofs.GroupLaws.{distinct-most}
 use Rattle.tree.proofs.WritingLaws.{wrote-nothing, wrote-one, wrote-then, wrote-as, wrote-over, wrote-take}
 use Rattle.sheet.specs.Rules.{Rules}
-use Rattle.sheet.specs.Reading.{LiftLine, ReadingState, ended, trees, firstFault, orderFault, kindFault, faultOf, entered, stateAfter, nothingRead, accepted}
+use Rattle.sheet.specs.Reading.{LiftLine, ReadingState, ended, trees, firstFault, orderFault, faultOf, entered, stateAfter, nothingRead, accepted}
 use Rattle.sheet.specs.InnerHolding.{InRange, Sound, Holds, AfterLine, Gives}
 use Rattle.sheet.specs.declared.Line.{Line}
 use Rattle.sheet.specs.declared.Line.the-variants.{Group, Operator, Lift, Mark, End, Bad}
 use Rattle.sheet.specs.declared.Progress.{Progress}
 use Rattle.sheet.proofs.EntriesLaws.{more-group, more-operator}
-use Rattle.sheet.proofs.SoundLaws.{first-none, first-some, first-second, sound-next, sound-mark, sound-lift, sound-end, sound-nothing-read}
+use Rattle.sheet.proofs.SoundLaws.{none-of, first-some, first-second, sound-next, sound-mark, sound-lift, sound-end, sound-nothing-read}
 
 -- ---- the first of two faults, where the code has the first as f
 pub order-first : (f F rest : ℕ) → f ≡ F → (f ≡ 0 → ⊥) → firstFault F rest ≡ f
@@ -174,37 +174,33 @@ module _ {rules : Rules} {st : ReadingState} {p : Progress} {tree groups marks :
       → AfterLine rules st (Lift q n) after p
       (record { fault = p .fault; line = p .line + 1; phase = 1; nodes = p .nodes; waiting = p .waiting; different = p .different; marked = p .marked; start = p .start; lifts = p .lifts + 1 })
       tree groups marks
-  unfolding faultOf
   stepped-lift q n after e =
       let l = length-append (st .lifts) (record { position = q; levels = n } ∷ []) in
       stepped-on (Lift q n) after _ _ _ _ refl refl e
-      (holds-over 1 _ _ _ _ _ (sound-lift rules st (h .sound) q n after (first-none _ _ e .0)) (h .marked) (omega (arith, h .lifts, l)) (omega (arith, h .few)))
+      (holds-over 1 _ _ _ _ _ (sound-lift rules st (h .sound) q n after (none-of rules st (Lift q n) e .0)) (h .marked) (omega (arith, h .lifts, l)) (omega (arith, h .few)))
 
   pub stepped-mark : (g after : ℕ) → faultOf rules st (Mark g) ≡ 0
       → AfterLine rules st (Mark g) after p
       (record { fault = p .fault; line = p .line + 1; phase = 2; nodes = p .nodes; waiting = p .waiting; different = p .different; marked = p .marked + 1; start = p .start; lifts = p .lifts })
       tree groups (set marks (p .marked) g)
-  unfolding faultOf
   stepped-mark g after e =
-      let z = first-none _ _ e in
+      let z = none-of rules st (Mark g) e in
       stepped-on (Mark g) after _ _ _ _ refl refl e
       (holds-over 2 _ _ _ _ _ (sound-mark rules st (h .sound) g after (z .0) (z .1)) (wrote-then (h .marked) (wrote-one marks (p .marked) g)) (h .lifts) (omega (arith, h .few)))
 
   -- there is room for a mark without fault
   pub mark-room : (g : ℕ) → faultOf rules st (Mark g) ≡ 0 → p .marked < length marks
-  unfolding faultOf
   mark-room g e =
-      let z : (orderFault (st .phase) (length (trees (st .entries))) 2 ≡ 0) × (kindFault rules st (Mark g) ≡ 0) = first-none _ _ e in
+      let z = none-of rules st (Mark g) e in
       omega (arith, marks-few (sound-mark rules st (h .sound) g 0 (z .0) (z .1)), length-append (st .marks) (g ∷ []), marked-is, marks-long)
 
   pub stepped-end : (after : ℕ) → faultOf rules st End ≡ 0
       → AfterLine rules st End after p
       (record { fault = p .fault; line = p .line + 1; phase = ended; nodes = p .nodes; waiting = p .waiting; different = p .different; marked = p .marked; start = p .start; lifts = p .lifts })
       tree groups marks
-  unfolding faultOf
   stepped-end after e =
       stepped-on End after _ _ _ _ refl refl e
-      (holds-over ended _ _ _ _ _ (sound-end rules st (h .sound) after (first-none _ _ e .0)) (h .marked) (h .lifts) (omega (arith, h .few)))
+      (holds-over ended _ _ _ _ _ (sound-end rules st (h .sound) after (none-of rules st End e .0)) (h .marked) (h .lifts) (omega (arith, h .few)))
 
   -- ---- at the end
   pub holds-gives : Gives rules (accepted st) p tree marks

@@ -7,4 +7,5 @@ mod SoundLaws
 mod HoldLaws
 mod LoopLaws
 pub mod AcceptedLaws
+pub mod RulesLaws
 pub mod LiftLineLaws

@@ -12,14 +12,14 @@ use Rattle.tree.specs.InnerGroups.{Distinct, leavesIn}
 use Rattle.tree.specs.Pass.{pass}
 use Rattle.tree.proofs.GroupLaws.{end-cases, is-in-new, collect-append, distinct-end, leaves-append, leaves-one, leaves-sign}
 use Rattle.sheet.specs.Rules.{Rules}
-use Rattle.sheet.specs.Reading.{LiftLine, ReadingState, place, ended, trees, firstFault, formFault, orderFault, kindFault, faultOf, entered, stateAfter, nothingRead}
+use Rattle.sheet.specs.Reading.{LiftLine, ReadingState, place, ended, trees, firstFault, formFault, orderFault, isFull, kindFault, faultOf, entered, stateAfter, nothingRead}
 use Rattle.sheet.specs.InnerHolding.{InRange, Sound}
 use Rattle.sheet.specs.declared.Line.{Line}
 use Rattle.sheet.specs.declared.Line.the-variants.{Group, Operator, Lift, Mark, End, Bad}
 use Rattle.sheet.proofs.EntriesLaws.{More, more-group, more-operator}
 
 -- ---- the first of two faults
-pub first-none : (f g : ℕ) → firstFault f g ≡ 0 → (f ≡ 0) × (g ≡ 0)
+first-none : (f g : ℕ) → firstFault f g ≡ 0 → (f ≡ 0) × (g ≡ 0)
 first-none f g e = go (eqb f 0) refl e
   where
     go : (b : Bool) → eqb f 0 ≡ b → cond b g f ≡ 0 → (f ≡ 0) × (g ≡ 0)
@@ -48,11 +48,33 @@ order-none phase many place e =
     go true q e = eqb-true many 1 q
     go false q e = absurd (true≢false e)
 
-pub order-of : (rules : Rules) (st : ReadingState) (l : Line) → faultOf rules st l ≡ 0 → orderFault (st .phase) (length (trees (st .entries))) (place l) ≡ 0
+-- a line without fault has none of order and none of its kind
+pub none-of : (rules : Rules) (st : ReadingState) (l : Line) → faultOf rules st l ≡ 0 → (orderFault (st .phase) (length (trees (st .entries))) (place l) ≡ 0) × (kindFault rules st l ≡ 0)
 unfolding faultOf
-order-of rules st l e =
+none-of rules st l e =
     let o = orderFault (st .phase) (length (trees (st .entries))) (place l) in
-    first-none o (kindFault rules st l) (first-none (formFault l) (firstFault o (kindFault rules st l)) e .1) .0
+    first-none o (kindFault rules st l) (first-none (formFault l) (firstFault o (kindFault rules st l)) e .1)
+
+pub bad-fault : (rules : Rules) (st : ReadingState) → faultOf rules st Bad ≡ 0 → ⊥
+unfolding faultOf
+bad-fault rules st e = let z : _≡_ {A = ℕ} 2 0 = e in omega arith
+
+-- a tree that is not full has room for a node
+not-full : (rules : Rules) (st : ReadingState) → isFull rules st ≡ false → length (st .entries) < rules .nodes
+not-full rules st e = omega (arith, leb-false)
+
+-- a tree line without fault has it
+pub group-none : (rules : Rules) (st : ReadingState) (g : ℕ) → kindFault rules st (Group g) ≡ 0
+    → (length (st .entries) < rules .nodes) × ((not (isIn (st .groups) g) && leb mostGroups (length (st .groups))) ≡ false)
+group-none rules st g e =
+    let a = off (isFull rules st) 4 _ e in
+    (not-full rules st (a .0), off (not (isIn (st .groups) g) && leb mostGroups (length (st .groups))) 5 0 (a .1) .0)
+
+pub operator-none : (rules : Rules) (st : ReadingState) (x : ℕ) → kindFault rules st (Operator x) ≡ 0
+    → (length (st .entries) < rules .nodes) × (2 ≤ length (trees (st .entries)))
+operator-none rules st x e =
+    let a = off (ltb (length (trees (st .entries))) 2) 3 _ e in
+    (not-full rules st (off (isFull rules st) 4 0 (a .1) .0), ltb-false (length (trees (st .entries))) 2 (a .0))
 
 collect-one : (xs : List ℕ) (g : ℕ) → collect xs (g ∷ []) ≡ withNew xs g
 unfolding collect
@@ -89,11 +111,9 @@ module _ (rules : Rules) (st : ReadingState) (S : Sound rules st) where
       → Sound rules (stateAfter st (Group g) after)
   sound-group g after r o e =
       let p = order-none (st .phase) (length (trees (st .entries))) 0 o .0 in
-      let a = off (leb (rules .nodes) (length (st .entries))) 4 _ e in
-      let h = leb-false (rules .nodes) (length (st .entries)) (a .0) in
-      let b = off (not (isIn (st .groups) g) && leb mostGroups (length (st .groups))) 5 0 (a .1) in
-      sound-entered g after (suc (length (trees (st .entries)))) (withNew (st .groups) g) p h (more-group (st .entries) g r (S .forest))
-      (known-more g r) (few (isIn (st .groups) g) (b .0)) (λ x i. is-in-new (st .groups) g x ∙ rw i)
+      let a = group-none rules st g e in
+      sound-entered g after (suc (length (trees (st .entries)))) (withNew (st .groups) g) p (a .0) (more-group (st .entries) g r (S .forest))
+      (known-more g r) (few (isIn (st .groups) g) (a .1)) (λ x i. is-in-new (st .groups) g x ∙ rw i)
     where
       few : (b : Bool) → (not b && leb mostGroups (length (st .groups))) ≡ false → length (cond b (st .groups) (st .groups ++ (g ∷ []))) ≤ mostGroups
       few true e = S .different
@@ -106,10 +126,9 @@ module _ (rules : Rules) (st : ReadingState) (S : Sound rules st) where
       → Sound rules (stateAfter st (Operator x) after)
   sound-operator x after r o e =
       let p = order-none (st .phase) (length (trees (st .entries))) 0 o .0 in
-      let a = off (ltb (length (trees (st .entries))) 2) 3 _ e in
-      let b = off (leb (rules .nodes) (length (st .entries))) 4 0 (a .1) in
-      sound-entered x after (length (trees (st .entries)) - 1) (st .groups) p (leb-false (rules .nodes) (length (st .entries)) (b .0))
-      (more-operator (st .entries) x (r .0) (r .1) (ltb-false (length (trees (st .entries))) 2 (a .0)) (S .forest))
+      let a = operator-none rules st x e in
+      sound-entered x after (length (trees (st .entries)) - 1) (st .groups) p (a .0)
+      (more-operator (st .entries) x (r .0) (r .1) (a .1) (S .forest))
       (S .known ∙ sym (ap (λ (y : ℕ). collect (collect [] (leavesIn (st .entries))) (leavesIn (y ∷ []))) (r .1) ∙ ap (collect (collect [] (leavesIn (st .entries)))) (leaves-sign (r .0)) ∙ collect-none (collect [] (leavesIn (st .entries)))))
       (S .different) (λ g i. i)
 
@@ -143,13 +162,12 @@ module _ (rules : Rules) (st : ReadingState) (S : Sound rules st) where
   sound-end after o = sound-over ended (st .start) (st .marks) (st .lifts) (one-waits 3 (omega arith) o) (S .once) (S .marked)
 
   pub sound-next : (l : Line) (after : ℕ) → InRange l → faultOf rules st l ≡ 0 → Sound rules (stateAfter st l after)
-  unfolding faultOf
-  sound-next Bad after r e = absurd (let z : _≡_ {A = ℕ} 2 0 = e in omega arith)
-  sound-next (Group g) after r e = let z = first-none _ _ e in sound-group g after r (z .0) (z .1)
-  sound-next (Operator x) after r e = let z = first-none _ _ e in sound-operator x after r (z .0) (z .1)
-  sound-next (Lift p n) after r e = sound-lift p n after (first-none _ _ e .0)
-  sound-next (Mark g) after r e = let z = first-none _ _ e in sound-mark g after (z .0) (z .1)
-  sound-next End after r e = sound-end after (first-none _ _ e .0)
+  sound-next Bad after r e = absurd (bad-fault rules st e)
+  sound-next (Group g) after r e = let z = none-of rules st (Group g) e in sound-group g after r (z .0) (z .1)
+  sound-next (Operator x) after r e = let z = none-of rules st (Operator x) e in sound-operator x after r (z .0) (z .1)
+  sound-next (Lift p n) after r e = sound-lift p n after (none-of rules st (Lift p n) e .0)
+  sound-next (Mark g) after r e = let z = none-of rules st (Mark g) e in sound-mark g after (z .0) (z .1)
+  sound-next End after r e = sound-end after (none-of rules st End e .0)
 
 pub sound-nothing-read : (rules : Rules) → Sound rules nothingRead
 unfolding trees pass leavesIn collect Distinct isIn

@@ -1,5 +1,5 @@
--- What reading may differ in, from one request to the next and from one file to another.
-use Prim.Native.Nat.{ℕ}
+-- What reading may differ in, from one request of 02 to the next and from one file to another.
+use Prim.Native.Nat.{ℕ, _≤_}
 
 pub record Rules : Type 0 where
   -- how many nodes the tree may have
@@ -9,7 +9,15 @@ pub record Rules : Type 0 where
 abbrev pub withNodes : ℕ → Rules → Rules
 withNodes n rules = record { nodes = n }
 
--- the rules for a sheet: "the tree, at most 1,023 nodes and 8 different groups" (of groups it is `mostGroups`, of `tree`
+-- `more` allow whatever `few` allow
+pub record Stricter (few more : Rules) : Type 0 where
+  pub nodes : few .nodes ≤ more .nodes
+
+-- the rules of 01 for a sheet: "the tree, at most 1,023 nodes and 8 different groups" (of groups it is `mostGroups`, of `tree`
 -- specs/Tree.antt)
+abbrev pub baseRules : Rules
+baseRules = record { nodes = 1023 }
+
+-- today's
 abbrev pub sheetRules : Rules
 sheetRules = record { nodes = 1023 }
