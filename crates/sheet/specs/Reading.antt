@@ -75,12 +75,12 @@ formFault End = 0
 abbrev pub orderFault : ℕ → ℕ → ℕ → ℕ
 orderFault phase many place = cond (ltb place phase) 3 (cond (eqb phase 0 && ltb 0 place && not (eqb many 1)) 7 0)
 
--- "5 a 1,024th node": the tree has as many nodes as the rules allow
+-- "5 a 1,024th node"; request 1: "5 is given at the 256th". The tree has as many nodes as the rules allow.
 abbrev pub isFull : Rules → ReadingState → Bool
 isFull rules st = leb (rules .nodes) (length (st .entries))
 
--- "then by kind, in this order: 4 `U` or `D` with fewer than two trees waiting; 5 a 1,024th node; 6 a ninth different group;
--- 8 a mark of a group not in the tree; 9 a mark twice"
+-- "then by kind, in this order: 4 `U` or `D` with fewer than two trees waiting; 5 .. node; 6 a ninth different group; 8 a mark of a
+-- group not in the tree; 9 a mark twice"
 abbrev pub kindFault : Rules → ReadingState → Line → ℕ
 kindFault rules st (Operator x) = cond (ltb (length (trees (st .entries))) 2) 4 (cond (isFull rules st) 5 0)
 kindFault rules st (Group g) = cond (isFull rules st) 5 (cond (not (isIn (st .groups) g) && leb mostGroups (length (st .groups))) 6 0)
@@ -136,7 +136,7 @@ readLines rules st n at (part l ls) =
 unfoldable pub readWith : Rules → List ℕ → ReadingOutcome
 readWith rules sheet = cond (ltb mostBytes (length sheet)) (refused 1 0) (readLines rules nothingRead 0 0 (split lineFeed sheet))
 
--- reading a sheet
+-- reading a sheet, by today's rules
 abbrev pub reading : List ℕ → ReadingOutcome
 reading sheet = readWith sheetRules sheet
 

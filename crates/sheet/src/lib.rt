@@ -15,10 +15,10 @@ ghost use Rattle.tree.specs.Tree.{mostGroups};
 ghost use Rattle.sheet.specs.InnerHolding.{Holding, Leads, GivesReading, acceptedSheet};
 use tree::MOST_GROUPS;
 
-// 01's limits.
+// 01's limits; that of a sheet's nodes is 02's, request 1.
 pub const MOST_BYTES: usize = 60000;
 
-pub const MOST_SHEET_NODES: usize = 1023;
+pub const MOST_SHEET_NODES: usize = 255;
 
 pub const MOST_POSITION: u16 = 8190;
 

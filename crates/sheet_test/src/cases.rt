@@ -182,22 +182,33 @@ fn show_nodes(name: &[u8], first: &[u8], groups: usize, operators: usize, last: 
 
 // The limit of nodes.
 pub fn nodes() {
-    show_nodes(b"1023 nodes", b"", 512, 511, b"");
-    show_nodes(b"1024th node a group", b"", 512, 511, b"G\t1\n");
-    show_nodes(b"1024th node an operator", b"", 513, 510, b"U\n");
-    show_nodes(
-        b"1024th node an operator with one tree",
-        b"",
-        512,
-        511,
-        b"U\n",
-    );
+    show_nodes(b"253 nodes", b"", 127, 126, b"");
+    show_nodes(b"255 nodes", b"", 128, 127, b"");
+    show_nodes(b"257 nodes", b"", 129, 128, b"");
+}
+
+// 255 tree lines, and a 256th of the kinds that bring a node.
+pub fn one_node_more() {
+    show_nodes(b"256th line a group", b"", 128, 127, b"G\t1\n");
+    show_nodes(b"256th line U with one tree", b"", 128, 127, b"U\n");
+    show_nodes(b"256th line U with three trees", b"", 129, 126, b"U\n");
+    show_nodes(b"256th line D with one tree", b"", 128, 127, b"D\n");
+    show_nodes(b"256th line D with three trees", b"", 129, 126, b"D\n");
+}
+
+// 255 tree lines, and a 256th of the other kinds.
+pub fn no_node_more() {
+    show_nodes(b"256th line a lift", b"", 128, 127, b"L\t0\t1\n");
+    show_nodes(b"256th line a mark", b"", 128, 127, b"K\t1\n");
+    show_nodes(b"256th line a mark of no group", b"", 128, 127, b"K\t2\n");
+    show_nodes(b"256th line of no form", b"", 128, 127, b"X\n");
+    show_nodes(b"256th line the end, three trees", b"", 129, 126, b"");
 }
 
 // The limit of groups.
 pub fn different_groups() {
     let eight = b"G\t1\nG\t2\nG\t3\nG\t4\nG\t5\nG\t6\nG\t7\nG\t8\n";
-    show_nodes(b"1024th node a ninth group", eight, 504, 511, b"G\t9\n");
+    show_nodes(b"256th line a ninth group", eight, 120, 127, b"G\t9\n");
     show_nodes(b"ninth group", eight, 0, 0, b"G\t9\n");
     show_nodes(b"eight groups", eight, 0, 7, b"");
     show_nodes(b"eight groups, one again", eight, 1, 8, b"");

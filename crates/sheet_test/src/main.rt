@@ -17,6 +17,8 @@ fn main() {
     cases::lift_fields();
     cases::bytes();
     cases::nodes();
+    cases::one_node_more();
+    cases::no_node_more();
     cases::different_groups();
     cases::sizes();
     vectors::refusals();

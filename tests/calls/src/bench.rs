@@ -8,12 +8,12 @@ use reference::calls::{compact_gather_call, encode_call, gather_call, lift_call,
 use reference::calls::{GatherAnswer, CODE_BUFFER, TREE_BUFFER};
 use reference::check::table;
 use reference::coder::encode;
-use reference::gather::rows;
+use reference::gather::{gather, rows};
 use reference::lift::lift;
 use reference::player::{LAMP_BYTES, MAXIMUM_PAIRS};
 use reference::random::Random;
-use reference::shape::{gatherable_table, levels_of_nodes, padded, table_tree, thirds_table, Shape};
-use reference::sheet::{Sheet, SHEET_NODES};
+use reference::shape::{difference, gatherable_table, levels_of_nodes, padded, table_tree, thirds_table, union, Shape};
+use reference::sheet::{Sheet, SHEET_BYTES, SHEET_NODES};
 use reference::tree::{groups, DIFFERENCE, MAXIMUM_NODES};
 use std::io::Write;
 use std::path::Path;
@@ -24,6 +24,7 @@ const RATIO_BAR: f64 = 2.0;
 const KEY_BAR: Duration = Duration::from_millis(20);
 const SHEET_LIFTS: usize = 50;
 const PROGRAM_RUNS: usize = 101;
+const SLOW_RUNS: usize = 11;
 const CALL_RUNS: usize = 201;
 
 type GatherCall = fn(&[u16], &[u16], &mut [u16]) -> GatherAnswer;
@@ -104,25 +105,45 @@ fn any_tree(nodes: usize, groups: u16, random: &mut Random) -> Vec<u16> {
     Shape::mixed().tree(nodes.div_ceil(2), &groups, random)
 }
 
+/// The slowest key that we know of, with as many lifts as fit into a sheet: a leaf under differences and then unions is
+/// lifted by 99 levels again and again. Each time the tree comes to 8,191 nodes, the lift is refused with 16, and the
+/// tree stays as it is written.
+fn slowest_sheet() -> Vec<u8> {
+    let differences = 67;
+    let group = |level: usize| [(level % 8 + 1) as u16];
+    let tree = (0..SHEET_NODES / 2).fold(vec![1], |tree, level| match level < differences {
+        true => difference(&group(level), &tree),
+        false => union(&tree, &group(level)),
+    });
+    let line = (differences, 99);
+    let bytes = |lifts: &[(usize, usize)]| sheet(&tree, lifts, &[]).len();
+    let count = (SHEET_BYTES - bytes(&[])) / (bytes(&[line]) - bytes(&[]));
+    sheet(&tree, &vec![line; count], &[])
+}
+
+fn bench_key(name: &str, runs: usize, sheet: &[u8], program: &Path, own: &Path) {
+    let (mut verified, mut reference) = (|| run_program(program, sheet), || run_program(own, sheet));
+    if compare(name, runs, &mut verified, &mut reference) > KEY_BAR {
+        println!("  ABOVE 20 ms");
+    }
+}
+
 fn bench_keys(program: &Path, own: &Path, random: &mut Random) {
     let tree = any_tree(SHEET_NODES, 8, random);
     let lifts = done_lifts(&tree, SHEET_LIFTS, 2 * SHEET_NODES, random);
     let growing = done_lifts(&tree, SHEET_LIFTS, MAXIMUM_NODES, random);
-    let marked = gatherable_tree(6, SHEET_NODES, random);
+    let marked = gatherable_tree(4, SHEET_NODES, random);
     let sheets = [
         ("key: no bytes (the start of a process)", Vec::new()),
-        ("key: 1,023 nodes", sheet(&tree, &[], &[])),
-        ("key: 1,023 nodes, 50 lifts", sheet(&tree, &lifts, &[])),
-        ("key: 1,023 nodes, 50 lifts that copy much", sheet(&tree, &growing, &[])),
-        ("key: 1,023 nodes, marks", sheet(&marked, &[], &[1, 2])),
+        ("key: 255 nodes", sheet(&tree, &[], &[])),
+        ("key: 255 nodes, 50 lifts", sheet(&tree, &lifts, &[])),
+        ("key: 255 nodes, 50 lifts that copy much", sheet(&tree, &growing, &[])),
+        ("key: 255 nodes, marks", sheet(&marked, &[], &[1, 2])),
     ];
     for (name, sheet) in sheets {
-        let (mut verified, mut reference) = (|| run_program(program, &sheet), || run_program(own, &sheet));
-        let time = compare(name, PROGRAM_RUNS, &mut verified, &mut reference);
-        if time > KEY_BAR {
-            println!("  ABOVE 20 ms");
-        }
+        bench_key(name, PROGRAM_RUNS, &sheet, program, own);
     }
+    bench_key("key: 255 nodes, 60,000 bytes of lifts", SLOW_RUNS, &slowest_sheet(), program, own);
 }
 
 fn bench_lift(name: &str, tree: &[u16], position: usize, levels: usize) {
@@ -158,7 +179,8 @@ fn bench_gathering(name: &str, tree: &[u16], marks: &[u16], number: u32, own_cal
 
 fn bench_gather(random: &mut Random) {
     let gatherable = gatherable_tree(8, MAXIMUM_NODES, random);
-    let not_gatherable = any_tree(MAXIMUM_NODES, 8, random);
+    let mut trees = std::iter::repeat_with(|| any_tree(MAXIMUM_NODES, 8, random));
+    let not_gatherable = trees.find(|tree| gather(tree, &[1, 2]).is_err()).expect("such a tree");
     bench_gathering("gather: 8,191 nodes, 8 groups", &gatherable, &[1, 2], 0, gather_call);
     bench_gathering("gather: 8,191 nodes, 19", &not_gatherable, &[1, 2], 19, gather_call);
     let dearest = dearest_tree();
@@ -195,11 +217,11 @@ fn main() -> ExitCode {
         return ExitCode::FAILURE;
     };
     let own = std::env::current_exe().expect("this program's path").with_file_name("reference_key");
-    let mut random = Random::new(8);
+    let random = || Random::new(8);
     println!("{:<44} {:>14} {:>14} {:>7}", "medians", "verified", "reference", "ratio");
-    bench_keys(Path::new(&program), &own, &mut random);
-    bench_lifts(&mut random);
-    bench_gather(&mut random);
-    bench_code(&mut random);
+    bench_keys(Path::new(&program), &own, &mut random());
+    bench_lifts(&mut random());
+    bench_gather(&mut random());
+    bench_code(&mut random());
     ExitCode::SUCCESS
 }

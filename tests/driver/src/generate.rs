@@ -58,7 +58,11 @@ fn mark_some(sheet: &mut Sheet, random: &mut Random) {
 
 /// Mostly small numbers of leaves, at times as many as a sheet allows.
 fn leaves(random: &mut Random) -> usize {
-    let most = random.pick(&[4, 8, 8, 16, 16, 40, 120, SHEET_NODES.div_ceil(2)]);
+    let all = SHEET_NODES.div_ceil(2);
+    if random.one_in(30) {
+        return all;
+    }
+    let most = random.pick(&[4, 8, 8, 16, 16, 40, 120, all]);
     random.between(1, most)
 }
 
@@ -239,7 +243,7 @@ fn grown(random: &mut Random) -> Sheet {
     sheet
 }
 
-/// A whole sheet with one line too many: a ninth group, a 1,024th node, an operator without
+/// A whole sheet with one line too many: a ninth group, a node past the limit, an operator without
 /// operands, a mark that is not in the tree, or a mark twice.
 fn one_fault(random: &mut Random) -> Vec<u8> {
     let groups = some_groups(9, random);

@@ -61,11 +61,12 @@ pub fn grown_to_limit(random: &mut Random) -> (Sheet, Vec<u16>) {
     let result = MAXIMUM_NODES + random.pick(&[0, 2]);
     let groups = some_groups(8, random);
     loop {
-        let leaves = random.between(430, 446);
+        let leaves = random.between(1, 52);
         let tree = Shape::any(random).tree(leaves, &groups, random);
         let mut growth = Growth { written: tree.clone(), current: tree, positions: Vec::new() };
-        growth.triple(&groups, random);
-        growth.triple(&groups, random);
+        while 3 * growth.current.len() < result {
+            growth.triple(&groups, random);
+        }
         let Some(size) = last_size(growth.current.len(), result) else { continue };
         if growth.written.len() + 5 + size > SHEET_NODES {
             continue;

@@ -1,4 +1,4 @@
-//! Sheets on either side of each of 01's limits.
+//! Sheets on either side of each limit of 01 and 02.
 
 use crate::cases::{text, Case, Expected};
 use reference::random::Random;
@@ -28,19 +28,37 @@ fn tree_lines(nodes: usize) -> String {
 }
 
 fn node_limit() -> Vec<Case> {
-    let last = SHEET_NODES + 1;
-    let whole = tree_lines(SHEET_NODES);
-    let more_waiting = group_lines(513) + &"U\n".repeat(510);
-    let tree = |text: String| text.into_bytes();
     vec![
-        accepted("1,023 nodes", tree(format!("{whole}E\n"))),
-        refused("a 1,024th node, a group", tree(format!("{whole}G\t1\nE\n")), 5, last),
-        refused("a 1,024th node, an operator", tree(format!("{more_waiting}U\nE\n")), 5, last),
-        refused("4 before 5", tree(format!("{whole}D\nE\n")), 4, last),
-        refused("5 before 6", tree(format!("{whole}G\t9\nE\n")), 5, last),
-        refused("2 before 5", tree(format!("{whole}G\t0\nE\n")), 2, last),
-        refused("two trees of 1,022 nodes", tree(format!("{}{}E\n", tree_lines(1021), group_lines(1))), 7, 1023),
-        refused("1,024 groups", tree(group_lines(1024)), 5, last),
+        accepted("253 nodes", (tree_lines(253) + "E\n").into_bytes()),
+        accepted("255 nodes", (tree_lines(255) + "E\n").into_bytes()),
+        refused("257 nodes", (tree_lines(257) + "E\n").into_bytes(), 5, 256),
+        refused("256 groups", group_lines(256).into_bytes(), 5, 256),
+        refused("1,023 nodes, which 01 allowed", (tree_lines(1023) + "E\n").into_bytes(), 5, 256),
+    ]
+}
+
+/// 255 tree lines, which make one tree or leave three, and a 256th line of each kind.
+fn line_after_most_nodes() -> Vec<Case> {
+    let one = tree_lines(255);
+    let three = group_lines(129) + &"U\n".repeat(126);
+    let sheet = |tree: &str, line: &str| format!("{tree}{line}\nE\n").into_bytes();
+    let fault = |name: &str, tree: &str, line: &str, number: usize| refused(name, sheet(tree, line), number, 256);
+    vec![
+        fault("256th line G", &one, "G\t1", 5),
+        fault("256th line G, three trees", &three, "G\t1", 5),
+        fault("256th line U with one tree: 4 before 5", &one, "U", 4),
+        fault("256th line D with one tree: 4 before 5", &one, "D", 4),
+        fault("256th line U", &three, "U", 5),
+        fault("256th line D", &three, "D", 5),
+        fault("256th line a ninth group: 5 before 6", &one, "G\t9", 5),
+        fault("256th line of no form: 2 before 5", &one, "G\t0", 2),
+        accepted("256th line L", sheet(&one, "L\t0\t1")),
+        accepted("256th line K", sheet(&one, "K\t1")),
+        refused("256th line E, and one more", sheet(&one, "E"), 3, 257),
+        fault("256th line L, three trees", &three, "L\t0\t1", 7),
+        fault("256th line K, three trees", &three, "K\t1", 7),
+        fault("256th line E, three trees", &three, "E", 7),
+        refused("254 lines of two trees", format!("{}G\t1\nE\n", tree_lines(253)).into_bytes(), 7, 255),
     ]
 }
 
@@ -91,10 +109,10 @@ fn deep_lifts() -> Vec<Case> {
     let mut cases = Vec::new();
     for levels in [1, 98, 99] {
         for _ in 0..20 {
-            let tree = Shape::any(&mut random).tree(512, &groups, &mut random);
+            let tree = Shape::any(&mut random).tree(SHEET_NODES.div_ceil(2), &groups, &mut random);
             let levels_of = levels_of_nodes(&tree);
             let deepest = (0..tree.len()).max_by_key(|&position| levels_of[position]).unwrap_or(0);
-            let lifts = vec![(deepest, levels), (deepest, levels), (1022, 1), (1023, 1), (8190, 99)];
+            let lifts = vec![(deepest, levels), (deepest, levels), (SHEET_NODES - 1, 1), (SHEET_NODES, 1), (8190, 99)];
             cases.push(accepted(&format!("lifts of {levels} levels"), Sheet { tree, lifts, marks: vec![] }.print()));
         }
     }
@@ -117,5 +135,6 @@ fn level_limit() -> Vec<Case> {
 }
 
 pub fn limits() -> Vec<Case> {
-    [node_limit(), group_limit(), byte_limit(), deep_lifts(), level_limit()].into_iter().flatten().collect()
+    let nodes = [node_limit(), line_after_most_nodes()];
+    nodes.into_iter().chain([group_limit(), byte_limit(), deep_lifts(), level_limit()]).flatten().collect()
 }

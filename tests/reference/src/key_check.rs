@@ -7,13 +7,14 @@ use crate::key::{key, lifts, Held, Key, Lifts};
 use crate::lift::Step;
 use crate::player::{index, lamp_bytes, play, LAST_LAMP};
 use crate::random::Random;
-use crate::sheet::{read, Sheet};
+use crate::sheet::{read, Sheet, SHEET_NODES};
 use crate::tree::{groups, select, Nodes, Operator, LAST_GROUP, MAXIMUM_NODES};
 
 /// What a sheet and its key show; the driver counts them.
 #[derive(Clone, Copy, PartialEq, Eq, PartialOrd, Ord, Debug)]
 pub enum Trait {
     Refused(u16),
+    MostNodes,
     NoMarks,
     GatheredAlready,
     Gatherable,
@@ -162,6 +163,9 @@ fn accepted(sheet: &Sheet, printed: &[u8], random: &mut Random) -> Result<Vec<Tr
     }
     let mut traits = lift_traits(sheet, &lifts);
     traits.push(marks);
+    if sheet.tree.len() == SHEET_NODES {
+        traits.push(Trait::MostNodes);
+    }
     Ok(traits)
 }
 

@@ -1,10 +1,11 @@
-//! Reading a sheet (01, "The sheet").
+//! Reading a sheet (01, "The sheet"; 02's requests where they change it).
 
 use crate::refusal::*;
 use crate::tree::{Operator, DIFFERENCE, LAST_GROUP, UNION};
 
 pub const SHEET_BYTES: usize = 60_000;
-pub const SHEET_NODES: usize = 1023;
+/// 02, request 1.
+pub const SHEET_NODES: usize = 255;
 const MAXIMUM_GROUPS: usize = 8;
 const LAST_POSITION: usize = 8190;
 const MAXIMUM_LEVELS: usize = 99;
