@@ -75,7 +75,7 @@ formFault End = 0
 abbrev pub orderFault : ℕ → ℕ → ℕ → ℕ
 orderFault phase many place = cond (ltb place phase) 3 (cond (eqb phase 0 && ltb 0 place && not (eqb many 1)) 7 0)
 
--- "5 a 1,024th node"; request 1: "5 is given at the 256th". The tree has as many nodes as the rules allow.
+-- "5 a 1,024th node", with request 1 "the 256th": the tree has as many nodes as the rules allow
 abbrev pub isFull : Rules → ReadingState → Bool
 isFull rules st = leb (rules .nodes) (length (st .entries))
 

@@ -13,8 +13,8 @@ withNodes n rules = record { nodes = n }
 pub record Stricter (few more : Rules) : Type 0 where
   pub nodes : few .nodes ≤ more .nodes
 
--- the rules of 01 for a sheet: "the tree, at most 1,023 nodes and 8 different groups" (of groups it is `mostGroups`, of `tree`
--- specs/Tree.antt)
+-- the rules of 01 for a sheet, before request 1: "the tree, at most 1,023 nodes and 8 different groups" (of groups it is `mostGroups`,
+-- of `tree` specs/Tree.antt)
 abbrev pub baseRules : Rules
 baseRules = record { nodes = 1023 }
 
