@@ -33,7 +33,7 @@ use Rattle.key.proofs.DemandLaws.{demand-3}
 
 module _ (s : List ℕ) (st : ReadingState) (e : reading s ≡ accepted st) (A : Accepted s st) where
   -- at most 10,000 lifts
-  pub few-lifts : liftBytes * length (st .lifts) ≤ 200000
+  pub few-lifts : liftBytes * length (st .lifts) ≤ 160000
   few-lifts = omega (arith, lifts-few s (st .start) (st .lifts) (A .end) (A .asked), accepted-short s st e)
 
   pub asked : Asked s (st .start) (length (st .lifts)) (st .lifts)
@@ -75,7 +75,7 @@ pub record IsRead (s : List ℕ) (st : ReadingState) (read : Sheet) : Type 0 whe
   pub marks : take (read .marked) (read .marks) ≡ st .marks
   pub marks-long : read .marked ≤ length (read .marks)
   pub asks : Asked s (read .start) (read .lifts) (st .lifts)
-  pub few : liftBytes * read .lifts ≤ 200000
+  pub few : liftBytes * read .lifts ≤ 160000
 
 answer-is : (s : List ℕ) (st : ReadingState) (e : reading s ≡ accepted st) → IsRead s st (sheetOf (accepted st))
 unfolding sheetOf
@@ -112,7 +112,7 @@ module _ {s : List ℕ} {st : ReadingState} {read : Sheet} (I : IsRead s st read
       → Finished (treeAfter (I .has .tree) (st .lifts)) (take (read .marked) (read .marks)) out₁ (r .next) out₂ next → WroteKey (accepted st) out out₂ next
   read-answered L F = answered s st (I .is) (I .has) L (rw (I .marks) at F)
 
-  pub read-most : {tree′ out out₁ : List ℕ} {r : Progress} → LiftedAll (I .has .tree) (st .lifts) tree′ r out out₁ → r .next ≤ 200000
+  pub read-most : {tree′ out out₁ : List ℕ} {r : Progress} → LiftedAll (I .has .tree) (st .lifts) tree′ r out out₁ → r .next ≤ 160000
   read-most L = omega (arith, L .most, I .few, I .asks .counted)
 
 -- ---- the contract of `key`: both promises

@@ -34,7 +34,7 @@ samples = record {
   i = record { answers = refl; writes = refl };
   ii = refl;
   iii = refl;
-  iv = refl;
+  iv = record { answers = refl; writes = refl };
   v = record { answers = refl; writes = refl };
   vi = record { answers = refl; writes = refl };
   -- where 4 alone is in, it follows 1; where 3 alone is in, it follows 2

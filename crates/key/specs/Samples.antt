@@ -1,4 +1,4 @@
--- Document 01, "Samples on either edge": one table of the definitions. Its one proof is in proofs/SampleLaws.antt.
+-- Document 01, "Samples on either edge", (iv) and (vi) as request 2 changes them: one table of the definitions. Its one proof is in proofs/SampleLaws.antt.
 use mathlib.Core.Path.{_≡_}
 use mathlib.Core.List.{List, [], _∷_}
 use mathlib.Core.Option.{some}
@@ -52,12 +52,12 @@ pub record Samples : Type 0 where
   pub ii : SampleRefused (1 ∷ 2 ∷ D ∷ []) 0 1 14
   -- "1 2 D 3 U, lift 0: 15"
   pub iii : SampleRefused (1 ∷ 2 ∷ D ∷ 3 ∷ U ∷ []) 0 1 15
-  -- "5 4 3 2 1 D D D D, lift 4: 15"
-  pub iv : SampleRefused (5 ∷ 4 ∷ 3 ∷ 2 ∷ 1 ∷ D ∷ D ∷ D ∷ D ∷ []) 4 1 15
+  -- request 2: 5 4 3 2 1 D D D D, lift 4: 5 4 3 D 4 4 2 D D 1 D U D, position 9, looks 1
+  pub iv : SampleLift (5 ∷ 4 ∷ 3 ∷ 2 ∷ 1 ∷ D ∷ D ∷ D ∷ D ∷ []) 4 1 (5 ∷ 4 ∷ 3 ∷ D ∷ 4 ∷ 4 ∷ 2 ∷ D ∷ D ∷ 1 ∷ D ∷ U ∷ D ∷ []) 9 1
   -- "3 2 1 D D 4 D, lift 2: 3 4 D 2 1 D D, position 4, looks 1"
   pub v : SampleLift (3 ∷ 2 ∷ 1 ∷ D ∷ D ∷ 4 ∷ D ∷ []) 2 1 (3 ∷ 4 ∷ D ∷ 2 ∷ 1 ∷ D ∷ D ∷ []) 4 1
-  -- "3 2 1 D D 4 U 5 U, lift 2: 5 4 U 3 2 1 D D U, position 5, looks 2"
-  pub vi : SampleLift (3 ∷ 2 ∷ 1 ∷ D ∷ D ∷ 4 ∷ U ∷ 5 ∷ U ∷ []) 2 1 (5 ∷ 4 ∷ U ∷ 3 ∷ 2 ∷ 1 ∷ D ∷ D ∷ U ∷ []) 5 2
+  -- request 2: 3 2 1 D D 4 U 5 U, lift 2: 3 4 U 2 4 D 1 D D 5 U, position 6, looks 1
+  pub vi : SampleLift (3 ∷ 2 ∷ 1 ∷ D ∷ D ∷ 4 ∷ U ∷ 5 ∷ U ∷ []) 2 1 (3 ∷ 4 ∷ U ∷ 2 ∷ 4 ∷ D ∷ 1 ∷ D ∷ D ∷ 5 ∷ U ∷ []) 6 1
   -- "1 3 D 2 4 D U marks 1 2: 19"
   pub vii : SampleCannot (1 ∷ 3 ∷ D ∷ 2 ∷ 4 ∷ D ∷ U ∷ []) (1 ∷ 2 ∷ [])
   -- "1 3 D 2 3 D U marks 1 2: gathered"

@@ -13,7 +13,7 @@ ghost use Rattle.lift_lines.specs.Inner.{IsList};
 ghost use Rattle.key.specs.Inner.{instructionBytes, MarkedTree, Finishes, ReadAs, WroteKey};
 
 // As many bytes as every key fits in.
-pub const KEY_BYTES: usize = 306500;
+pub const KEY_BYTES: usize = 266500;
 
 // Writes the code of a tree.
 fn put_tree_code(tree: &[u16], out: &mut [u8], at: usize) -> usize

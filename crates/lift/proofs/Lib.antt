@@ -1,6 +1,5 @@
 -- The laws of the definitions in specs/, for this crate and those above it.
 pub mod LiftLaws
-pub mod ResultLaws
 pub mod LevelLaws
 pub mod RunLaws
 pub mod WholeLaws

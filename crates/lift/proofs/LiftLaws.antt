@@ -1,18 +1,18 @@
--- Laws of a lift: the new tree is equivalent to the given one, has the same groups, and is within the limit.
+-- Laws of a lift: the new tree is equivalent to the given one, has the same groups, and is within the limit; looks are as many as the levels.
 use mathlib.Core.Path.{_≡_, refl, sym, subst, _∙_}
 use mathlib.Core.Bool.{Bool, true, false, cond, _||_}
 use mathlib.Core.Option.{Option, some, none}
 use mathlib.Core.List.{List, []}
-use Prim.Native.Nat.{ℕ, zero, suc, _+_, _≤_}
+use Prim.Native.Nat.{ℕ, zero, suc, _+_, _≤_, _<_}
 use native.Mathlib.Omega.{arith}
-use borrow.Author.Tests.{ltb-false, leb-false}
+use borrow.Author.Tests.{le-ltb, ltb-false, leb-false}
 use lib.Dec.{eqb, leb, ltb}
 use lib.ListN.{length}
 use Rattle.tree.specs.Tree.{Tree, size, mostNodes, postfix, Equivalent, Over}
 use Rattle.tree.specs.Context.{Frame, plug}
 use Rattle.tree.specs.Parse.{treeOf, locate}
 use Rattle.tree.proofs.TreeLaws.{equivalent-trans, equivalent-refl, selects-equivalent}
-use Rattle.tree.proofs.ContextLaws.{located-whole}
+use Rattle.tree.proofs.ContextLaws.{located-whole, position-most}
 use Rattle.tree.proofs.ParseLaws.{tree-of-sound, tree-of-postfix}
 use Rattle.step.specs.Step.{Outcome, stuck, moved, step}
 use Rattle.lift.specs.Lift.{Result, refused, lifted, goesOn, steps, liftAt, liftIn, liftOf}
@@ -28,60 +28,77 @@ pub record Keeps (t u : Tree) : Type 0 where
   pub over-back : (m : ℕ → Bool) → Over m u → Over m t
   pub most : size u ≤ mostNodes
 
-abbrev Kept : Tree → Result → Type 0
-Kept t (refused number) = Unit {0}
-Kept t (lifted u p n) = Keeps t u
+-- of a lift by so many levels in the tree t: a refusal's number has two digits; a lifted tree keeps all that, the position is one of its own, and
+-- looks are as many as the levels
+pub record LiftedKeeps (t : Tree) (levels : ℕ) (u : Tree) (place looks : ℕ) : Type 0 where
+  pub keeps : Keeps t u
+  pub position-within : place < size u
+  pub looks-are : looks ≡ levels
 
-kept-if : (t : Tree) (b : Bool) (number : ℕ) (x : Result) → (b ≡ false → Kept t x) → Kept t (cond b (refused number) x)
-kept-if t true number x h = tt
-kept-if t false number x h = h refl
+abbrev pub Kept : Tree → ℕ → Result → Type 0
+Kept t levels (refused number) = number < 100
+Kept t levels (lifted u place looks) = LiftedKeeps t levels u place looks
 
-step-keeps : (t a : Tree) (c e : List Frame) (n : ℕ) → step c ≡ moved e n → Keeps t (plug a c) → size (plug a e) ≤ mostNodes → Keeps t (plug a e)
-step-keeps t a c e n h K s = record {
-  equivalent = equivalent-trans (selects-equivalent (plug a e) (plug a c) (λ v. step-selects c e n h v a)) (K .equivalent);
-  over = λ m o. step-over c e n h m a (K .over m o);
-  over-back = λ m o. K .over-back m (step-over-back c e n h m a o);
+kept-if : (t : Tree) (levels : ℕ) (b : Bool) (number : ℕ) (x : Result) → number < 100 → (b ≡ false → Kept t levels x) → Kept t levels (cond b (refused number) x)
+kept-if t levels true number x s h = s
+kept-if t levels false number x s h = h refl
+
+step-keeps : (t a : Tree) (c e : List Frame) → step c ≡ moved e → Keeps t (plug a c) → size (plug a e) ≤ mostNodes → Keeps t (plug a e)
+step-keeps t a c e h K s = record {
+  equivalent = equivalent-trans (selects-equivalent (plug a e) (plug a c) (λ v. step-selects c e h v a)) (K .equivalent);
+  over = λ m o. step-over c e h m a (K .over m o);
+  over-back = λ m o. K .over-back m (step-over-back c e h m a o);
   most = s;
 }
 
-steps-keep : (k : ℕ) (t a : Tree) (c : List Frame) (n : ℕ) → Keeps t (plug a c) → Kept t (steps k a c n)
+steps-keep : (k levels : ℕ) (t a : Tree) (c : List Frame) (looks : ℕ) → looks + k ≡ levels → Keeps t (plug a c) → Kept t levels (steps k a c looks)
 unfolding steps
-steps-keep zero t a c n K = K
-steps-keep (suc k) t a c n K = go (λ e m. steps-keep k t a e m) (step c) refl
+steps-keep zero levels t a c looks q K = record { keeps = K; position-within = position-most a c; looks-are = omega arith }
+steps-keep (suc k) levels t a c looks q K = go (λ e. steps-keep k levels t a e (looks + 1) (omega arith)) (step c) refl
   where
-    go : ((e : List Frame) (m : ℕ) → Keeps t (plug a e) → Kept t (steps k a e m)) → (o : Outcome) → step c ≡ o → Kept t (goesOn o a n (λ e m. steps k a e m))
-    go f stuck h = tt
-    go f (moved e m) h =
-        kept-if t (ltb mostNodes (size (plug a e))) 16 (steps k a e (n + m))
-        (λ b. f e (n + m) (step-keeps t a c e m h K (ltb-false mostNodes (size (plug a e)) b)))
+    go : ((e : List Frame) → Keeps t (plug a e) → Kept t levels (steps k a e (looks + 1))) → (o : Outcome) → step c ≡ o
+        → Kept t levels (goesOn o a (λ e. steps k a e (looks + 1)))
+    go f stuck h = omega arith
+    go f (moved e) h =
+        kept-if t levels (ltb mostNodes (size (plug a e))) 16 (steps k a e (looks + 1)) (omega arith)
+        (λ b. f e (step-keeps t a c e h K (ltb-false mostNodes (size (plug a e)) b)))
 
--- the whole call, of a list l
-pub record LiftKeeps (l : List ℕ) (u : Tree) : Type 0 where
-  pub tree : Tree
-  pub given : treeOf l ≡ some tree
-  pub keeps : Keeps tree u
-  pub new : treeOf (postfix u) ≡ some u
-
-lift-in-keeps : (t : Tree) (p k : ℕ) → size t ≤ mostNodes → Kept t (liftIn (some t) p k)
+pub lift-in-keeps : (t : Tree) (p k : ℕ) → size t ≤ mostNodes → Kept t k (liftIn (some t) p k)
 lift-in-keeps t p k s =
-    kept-if t (leb (size t) p) 13 (liftAt (locate t [] p) k)
+    kept-if t k (leb (size t) p) 13 (liftAt (locate t [] p) k) (omega arith)
     (λ b. let e : plug (locate t [] p .part) (locate t [] p .above) ≡ t = located-whole t p (leb-false (size t) p b) in
-    kept-if t (eqb k 0 || leb (length (locate t [] p .above)) k) 14 (steps k (locate t [] p .part) (locate t [] p .above) 0)
-    (λ d. steps-keep k t (locate t [] p .part) (locate t [] p .above) 0
+    kept-if t k (eqb k 0 || leb (length (locate t [] p .above)) k) 14 (steps k (locate t [] p .part) (locate t [] p .above) 0) (omega arith)
+    (λ d. steps-keep k k t (locate t [] p .part) (locate t [] p .above) 0 (omega arith)
     (subst (Keeps t) (sym e) (record { equivalent = equivalent-refl t; over = λ m o. o; over-back = λ m o. o; most = s }))))
 
-pub lift-keeps : (room : ℕ) (l : List ℕ) (p k : ℕ) (u : Tree) (p′ n : ℕ) → liftOf room l p k ≡ lifted u p′ n → LiftKeeps l u
+-- the whole call, of a list l
+pub record LiftKeeps (l : List ℕ) (levels : ℕ) (u : Tree) (place looks : ℕ) : Type 0 where
+  pub tree : Tree
+  pub given : treeOf l ≡ some tree
+  pub kept : LiftedKeeps tree levels u place looks
+  pub new : treeOf (postfix u) ≡ some u
+
+pub lift-keeps : (room : ℕ) (l : List ℕ) (p k : ℕ) (u : Tree) (place looks : ℕ) → liftOf room l p k ≡ lifted u place looks → LiftKeeps l k u place looks
 unfolding liftOf
-lift-keeps room l p k u p′ n h = go (ltb room mostNodes) (treeOf l) refl h
+lift-keeps room l p k u place looks h = go (ltb room mostNodes) (treeOf l) refl h
   where
-    go : (b : Bool) (o : Option Tree) → treeOf l ≡ o → cond b (refused 11) (liftIn o p k) ≡ lifted u p′ n → LiftKeeps l u
+    go : (b : Bool) (o : Option Tree) → treeOf l ≡ o → cond b (refused 11) (liftIn o p k) ≡ lifted u place looks → LiftKeeps l k u place looks
     go true o e q = absurd (let z : _≡_ {A = ℕ} 0 1 = cc in omega arith)
     go false none e q = absurd (let z : _≡_ {A = ℕ} 0 1 = cc in omega arith)
     go false (some t) e q =
         let W = tree-of-sound l t e in
         let same : W .tree ≡ t = (let z : some (W .tree) ≡ some t = sym (W .is) ∙ e in cc) in
-        let K : Keeps t u = subst (Kept t) q (lift-in-keeps t p k (subst (λ (x : Tree). size x ≤ mostNodes) same (W .most))) in
-        record { tree = t; given = e; keeps = K; new = tree-of-postfix u (K .most) }
+        let K : LiftedKeeps t k u place looks = subst (Kept t k) q (lift-in-keeps t p k (subst (λ (x : Tree). size x ≤ mostNodes) same (W .most))) in
+        record { tree = t; given = e; kept = K; new = tree-of-postfix u (K .keeps .most) }
+
+-- request 2: "Looks then equal the levels lifted": a lift by k levels that is done has k looks
+pub looks-are-levels : (room : ℕ) (l : List ℕ) (p k : ℕ) (u : Tree) (place looks : ℕ) → liftOf room l p k ≡ lifted u place looks → looks ≡ k
+looks-are-levels room l p k u place looks h = lift-keeps room l p k u place looks h .kept .looks-are
+
+-- `lift` in a buffer that is long enough, of a tree's list, is a lift in that tree
+pub lift-of-tree : (room : ℕ) (t : Tree) (p k : ℕ) → mostNodes ≤ room → size t ≤ mostNodes → liftOf room (postfix t) p k ≡ liftIn (some t) p k
+unfolding liftOf
+lift-of-tree room t p k r h = rw (le-ltb room mostNodes r, tree-of-postfix t h)
 
 -- ---- the answer itself, for callers
 abbrev pub liftReply : Result → Lifted

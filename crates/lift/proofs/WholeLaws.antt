@@ -14,15 +14,13 @@ use Rattle.tree.specs.Parse.{treeOf, isSome, locate}
 use Rattle.tree.specs.InnerPart.{Part}
 use Rattle.tree.specs.InnerWriting.{Wrote}
 use Rattle.tree.proofs.ParseLaws.{IsTree, tree-length, no-tree-of}
-use Rattle.tree.proofs.PartLaws.{part-length, part-of-entry}
+use Rattle.tree.proofs.PartLaws.{part-of-entry}
 use Rattle.tree.proofs.WritingLaws.{wrote-over, take-over}
 use Rattle.step.specs.InnerStanding.{StateIs, Standing}
 use Rattle.lift.specs.Lift.{refused, steps, liftAt, liftIn, liftOf, Result}
 use Rattle.lift.specs.Answer.{resultSays, liftBuffer, Lifts}
 use Rattle.lift.specs.declared.Lifted.{Lifted}
 use Rattle.lift.specs.declared.Lifted.the-variants.{Refused}
-use Rattle.lift.proofs.LevelLaws.{part-level}
-use Rattle.step.proofs.StepAnswerLaws.{after-long}
 
 module _ (room : ℕ) (l : List ℕ) (p k : ℕ) where
   pub says-11 : room < mostNodes → liftOf room l p k ≡ refused 11
@@ -72,20 +70,9 @@ levels-below k level t = leb-false level k (go (eqb k 0) (leb level k) t)
     go false y e = e
 
 -- ---- the first buffer begins with the list
-pub stands-first : {l x : List ℕ} {zeros : List ℕ} {r from to level state : ℕ} {a : Tree} {c : List Frame} → Wrote zeros 0 x r l → length l ≤ length zeros → Part l from to a c → level ≡ length c → StateIs c state
-    → Standing (take (length l) x) (record { from = from; to = to; level = level; state = state }) a c
-stands-first {l} {x} {zeros} W h P e s = record {
-  part = rw (ap (take (length l)) (wrote-over W h) ∙ take-over l zeros (length l) refl) P;
-  level = e;
-  state = s;
-}
-
--- a part's level does not turn on the tree and the context that are named
-pub same-level : {l : List ℕ} {f g t : ℕ} {a b : Tree} {c d : List Frame} → Part l f t a c → Part l g t b d → length c ≡ length d
-same-level P Q = sym (part-level P) ∙ part-level Q
-
-pub level-within : {l : List ℕ} {f t : ℕ} {a : Tree} {c : List Frame} → Part l f t a c → length c ≤ length l
-level-within {l} {f} {t} {a} {c} P = omega (arith, after-long c, part-length P)
+pub stands-first : {l x : List ℕ} {zeros : List ℕ} {r from to state : ℕ} {a : Tree} {c : List Frame} → Wrote zeros 0 x r l → length l ≤ length zeros → Part l from to a c → StateIs c state
+    → Standing (take (length l) x) (record { from = from; to = to; state = state }) a c
+stands-first {l} {x} {zeros} W h P s = record { part = rw (ap (take (length l)) (wrote-over W h) ∙ take-over l zeros (length l) refl) P; state = s }
 
 -- ---- what the call answers, for results that are the same
 pub refuses : {x : Result} {number : ℕ} {out : List ℕ} → x ≡ refused number → Lifts x out (Refused number) out

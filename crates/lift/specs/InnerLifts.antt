@@ -1,8 +1,6 @@
 -- What the functions answer that make several steps. No contract of one of 01's calls cites this file.
-use mathlib.Core.Path.{_≡_}
 use mathlib.Core.List.{List}
 use Prim.Native.Nat.{ℕ}
-use lib.ListN.{length}
 use Rattle.tree.specs.Tree.{Tree}
 use Rattle.tree.specs.Context.{Frame}
 use Rattle.tree.specs.InnerPart.{Part}
@@ -12,9 +10,9 @@ use Rattle.step.specs.InnerStanding.{Standing}
 use Rattle.step.specs.declared.Node.{Node}
 use Rattle.lift.specs.declared.Lifted.{Lifted}
 
--- the part that ends before `to` is a part of the list of a tree, and `level` is its level
-abbrev pub AtLevel : List ℕ → ℕ → ℕ → Type 0
-AtLevel list to level = (from : ℕ) × (a : Tree) × (c : List Frame) × Part list from to a c × (level ≡ length c)
+-- a part of the list of a tree ends before `to`
+abbrev pub Ends : List ℕ → ℕ → Type 0
+Ends list to = (from : ℕ) × (a : Tree) × (c : List Frame) × Part list from to a c
 
 -- that many steps of the node, with the looks so far, whichever part it is in the list of a tree
 pub record LiftsNode (list : List ℕ) (n : Node) (levels looks : ℕ) (out : List ℕ) (r : Lifted) (out′ : List ℕ) : Type 0 where

@@ -15,16 +15,16 @@ pub data Result : Type 0 where
   refused : ℕ → Result
   lifted : Tree → ℕ → ℕ → Result
 
--- how a lift of the part a goes on after a step, with the looks so far: "15 the step, own or passed on, has no grandparent, or in states 5 to 9
--- no D; 16 the result passes 8,191 nodes"; else the steps that are left
-abbrev pub goesOn : Outcome → Tree → ℕ → (List Frame → ℕ → Result) → Result
-goesOn stuck a looks rest = refused 15
-goesOn (moved e n) a looks rest = cond (ltb mostNodes (size (plug a e))) (refused 16) (rest e (looks + n))
+-- how a lift of the part a goes on after a step: "15 the step .. has .. in states 5 to 9 no D; 16 the result passes 8,191 nodes"; else the
+-- steps that are left
+abbrev pub goesOn : Outcome → Tree → (List Frame → Result) → Result
+goesOn stuck a rest = refused 15
+goesOn (moved e) a rest = cond (ltb mostNodes (size (plug a e))) (refused 16) (rest e)
 
--- "A lift of several levels is that many steps, all or none": k steps of the part a in the context c; looks add up
+-- "A lift of several levels is that many steps, all or none": k steps of the part a in the context c, with the looks so far; "a step .. counts 1"
 unfoldable pub steps : ℕ → Tree → List Frame → ℕ → Result
 steps zero a c looks = lifted (plug a c) (position a c) looks
-steps (suc k) a c looks = goesOn (step c) a looks (λ e n. steps k a e n)
+steps (suc k) a c looks = goesOn (step c) a (λ e. steps k a e (looks + 1))
 
 -- a lift by k levels of the node at a place, whose level is the number of frames: "14 zero levels, or levels more than A's level less one (for
 -- the root, any)"

@@ -7,7 +7,7 @@ ghost use Rattle.tree.specs.Tree.{Tree, mostNodes};
 ghost use Rattle.tree.specs.Context.{Frame};
 ghost use Rattle.tree.specs.InnerPart.{Part};
 ghost use Rattle.step.specs.InnerStanding.{Stands};
-ghost use Rattle.lift.specs.InnerLifts.{AtLevel, LiftsNode, LiftsPart};
+ghost use Rattle.lift.specs.InnerLifts.{Ends, LiftsNode, LiftsPart};
 ghost use Rattle.lift.specs.Lift.{liftOf};
 ghost use Rattle.lift.specs.Answer.{Lifts};
 use step::Node;
@@ -39,8 +39,8 @@ pub enum Lifted {
     Refused(u16),
 }
 
-// That many steps of a node of the tree in the first `nodes` entries of `x`, with the looks so far. `y` is a second buffer; the two change
-// places at each step. The node's next state is read from the table. `out` is written once all steps are made.
+// That many steps of a node of the tree in the first `nodes` entries of `x`, with the looks so far: a step counts 1. `y` is a second buffer;
+// the two change places at each step. `out` is written once all steps are made.
 fn run(
     x: &mut [u16],
     y: &mut [u16],
@@ -53,7 +53,7 @@ fn run(
     requires { ⌜ Stands (take nodes (now x)) node ⌝ }
     requires { ⌜ (nodes ≤ mostNodes) × (mostNodes ≤ length (now x)) ⌝ }
     requires { ⌜ (mostNodes ≤ length (now y)) × (mostNodes ≤ length (now out)) ⌝ }
-    requires { ⌜ (levels < node .level) × (looks + mostNodes * levels ≤ mostNodes * mostNodes) ⌝ }
+    requires { ⌜ looks + mostNodes * levels ≤ mostNodes * mostNodes ⌝ }
     ensures { λ r. ⌜ LiftsNode (take nodes (now (x .entry))) node levels looks (now (out .entry)) r (now (out .exit)) ⌝ }
 {
     if levels == 0 {
@@ -67,20 +67,7 @@ fn run(
     match step::step(&x[..nodes], node, y) {
         Stepped::Stuck => Lifted::Refused(NO_STEP),
         Stepped::TooLong => Lifted::Refused(TOO_LONG),
-        Stepped::Done {
-            nodes: new_nodes,
-            from,
-            looks: more,
-            input,
-        } => {
-            let next = Node {
-                from,
-                to: from + (node.to - node.from),
-                level: node.level - 1,
-                state: moves::next_state(node.state, input),
-            };
-            run(y, x, new_nodes, next, levels - 1, looks + more, out)
-        }
+        Stepped::Done(more, next) => run(y, x, more, next, levels - 1, looks + 1, out),
     }
 }
 
@@ -112,10 +99,10 @@ fn level_of(list: &[u16], to: usize) -> usize
 }
 
 // That many steps of the part that ends before `to`, in two buffers of its own.
-fn lift_part(list: &[u16], to: usize, level: usize, levels: usize, out: &mut [u16]) -> Lifted
-    requires { ⌜ AtLevel (now list) to level ⌝ }
+fn lift_part(list: &[u16], to: usize, levels: usize, out: &mut [u16]) -> Lifted
+    requires { ⌜ Ends (now list) to ⌝ }
     requires { ⌜ (length (now list) ≤ mostNodes) × (mostNodes ≤ length (now out)) ⌝ }
-    requires { ⌜ levels < level ⌝ }
+    requires { ⌜ levels ≤ mostNodes ⌝ }
     ensures { λ r. ⌜ LiftsPart (now (list .entry)) to levels (now (out .entry)) r (now (out .exit)) ⌝ }
 {
     let from = tree::part_start(list, to);
@@ -127,12 +114,7 @@ fn lift_part(list: &[u16], to: usize, level: usize, levels: usize, out: &mut [u1
         &mut x,
         &mut y,
         list.len(),
-        Node {
-            from,
-            to,
-            level,
-            state,
-        },
+        Node { from, to, state },
         levels,
         0,
         out,
@@ -155,7 +137,7 @@ pub fn lift(tree: &[u16], position: usize, levels: usize, out: &mut [u16]) -> Li
         if (levels == 0) | (level <= levels) {
             return Lifted::Refused(BAD_LEVELS);
         }
-        lift_part(tree, to, level, levels, out)
+        lift_part(tree, to, levels, out)
     } else {
         Lifted::Refused(NOT_A_TREE)
     }

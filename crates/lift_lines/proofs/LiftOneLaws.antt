@@ -15,15 +15,13 @@ use Rattle.sheet.specs.Form.{mostPosition, mostLevels}
 use Rattle.sheet.specs.Reading.{LiftLine}
 use Rattle.lift.specs.Lift.{Result, refused, lifted, liftOf}
 use Rattle.lift.specs.Answer.{liftBuffer, Lifts}
-use Rattle.lift.proofs.LiftLaws.{liftReply, lifts-reply}
+use Rattle.lift.proofs.LiftLaws.{Kept, LiftedKeeps, lift-in-keeps, lift-of-tree, liftReply, lifts-reply}
 use Rattle.lift.specs.declared.Lifted.{Lifted}
 use Rattle.lift.specs.declared.Lifted.the-variants.{Done, Refused}
 use Rattle.printing.specs.Key.{LIFT}
-use Rattle.lift_lines.specs.Lifting.{lifting, treeLeft}
+use Rattle.lift_lines.specs.Lifting.{lifting}
 use Rattle.lift_lines.specs.Inner.{liftBytes, IsList, LiftedOne}
 use Rattle.printing.proofs.PrintingLaws.{lift-most}
-use Rattle.lift.proofs.ResultLaws.{lift-of-tree, lifted-bounded, refused-bounded}
-use Rattle.lift_lines.proofs.LiftingLaws.{left-keeps}
 
 -- the lift was done: the new tree's list stands at the front of `new`, and its line is short enough
 pub record DoneLift (t : Tree) (l : LiftLine) (count place looks : ℕ) (new : List ℕ) : Type 0 where
@@ -34,7 +32,7 @@ pub record DoneLift (t : Tree) (l : LiftLine) (count place looks : ℕ) (new : L
   pub front : take count new ≡ postfix tree
   pub long : count ≤ length new
   pub place-small : place < 10000
-  pub looks-small : looks < 1000000
+  pub looks-small : looks < 100
 
 -- it was refused
 pub record RefusedLift (t : Tree) (l : LiftLine) (number : ℕ) : Type 0 where
@@ -50,6 +48,9 @@ module _ (entries new : List ℕ) (r : Lifted) (new′ : List ℕ) (t : Tree) (l
   answered : r ≡ liftReply (lifting t l)
   answered = lifts-reply L ∙ ap liftReply result
 
+  kept : Kept t (l .levels) (lifting t l)
+  kept = lift-in-keeps t (l .position) (l .levels) (w .most)
+
   pub done-lift : (count place looks : ℕ) → r ≡ Done count place looks → DoneLift t l count place looks new′
   done-lift count place looks e = go (lifting t l) refl (sym e ∙ answered) (L .leaves ∙ ap (λ (x : Result). liftBuffer x new) result)
     where
@@ -60,8 +61,8 @@ module _ (entries new : List ℕ) (r : Lifted) (new′ : List ℕ) (t : Tree) (l
           let d : p ≡ place = cc in
           let g : k ≡ looks = cc in
           let h : lifting t l ≡ lifted u place looks = q ∙ rw (d, g) in
-          let m : size u ≤ mostNodes = subst (λ (x : Result). size (treeLeft t x) ≤ mostNodes) q (left-keeps t l (w .most) .most) in
-          let B = lifted-bounded t (l .position) (l .levels) u place looks (w .most) h in
+          let K : LiftedKeeps t (l .levels) u place looks = subst (Kept t (l .levels)) h kept in
+          let m = K .keeps .most in
           record {
             tree = u;
             is = h;
@@ -69,8 +70,8 @@ module _ (entries new : List ℕ) (r : Lifted) (new′ : List ℕ) (t : Tree) (l
             most = m;
             front = rw b (take-over (postfix u) new count (a ∙ sym (postfix-length u)));
             long = rw b (omega (arith, a, postfix-length u, length-append (postfix u) (drop (length (postfix u)) new)));
-            place-small = omega (arith, B .position-most, m);
-            looks-small = omega (arith, B .looks-most, few);
+            place-small = omega (arith, K .position-within, m);
+            looks-small = omega (arith, K .looks-are, few);
           }
 
   pub refused-lift : (number : ℕ) → r ≡ Refused number → RefusedLift t l number
@@ -81,10 +82,10 @@ module _ (entries new : List ℕ) (r : Lifted) (new′ : List ℕ) (t : Tree) (l
       go (refused n) q f =
           let a : n ≡ number = cc in
           let h : lifting t l ≡ refused number = q ∙ rw a in
-          record { is = h; small = refused-bounded t (l .position) (l .levels) number (w .most) h }
+          record { is = h; small = subst (Kept t (l .levels)) h kept }
 
 -- ---- the two answers of `lift_one`
-pub lift-line-room : (number position looks at room : ℕ) → number < 100 → position < 10000 → looks < 1000000 → at + liftBytes ≤ room → at + length (line LIFT (number ∷ position ∷ looks ∷ [])) ≤ room
+pub lift-line-room : (number position looks at room : ℕ) → number < 100 → position < 10000 → looks < 100 → at + liftBytes ≤ room → at + length (line LIFT (number ∷ position ∷ looks ∷ [])) ≤ room
 lift-line-room number position looks at room n p k h = omega (arith, lift-most number position looks n p k)
 
 pub lifted-one-done : {t : Tree} {l : LiftLine} {count place looks next after : ℕ} {tree tree′ new out out′ : List ℕ} {at : ℕ} → DoneLift t l count place looks new → mostNodes ≤ length tree

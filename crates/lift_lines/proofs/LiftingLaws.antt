@@ -1,15 +1,11 @@
 -- What a list of lifts keeps of the tree as written: what it selects, the groups of its leaves, and the limit.
-use mathlib.Core.Path.{_≡_, refl, sym, subst, _∙_}
+use mathlib.Core.Path.{_≡_, refl, subst}
 use mathlib.Core.List.{List, [], _∷_}
-use mathlib.Core.Option.{some}
 use Prim.Native.Nat.{_≤_}
-use native.Mathlib.Omega.{arith}
-use Rattle.tree.specs.Tree.{Tree, postfix, size, mostNodes}
+use Rattle.tree.specs.Tree.{Tree, size, mostNodes}
 use Rattle.tree.proofs.TreeLaws.{equivalent-refl, equivalent-trans}
-use Rattle.tree.proofs.ParseLaws.{tree-of-postfix}
 use Rattle.lift.specs.Lift.{Result, refused, lifted}
-use Rattle.lift.proofs.LiftLaws.{Keeps, LiftKeeps, lift-keeps}
-use Rattle.lift.proofs.ResultLaws.{lift-of-tree}
+use Rattle.lift.proofs.LiftLaws.{Keeps, Kept, LiftedKeeps, lift-in-keeps}
 use Rattle.sheet.specs.Reading.{LiftLine}
 use Rattle.lift_lines.specs.Lifting.{lifting, treeLeft, treeAfter}
 
@@ -31,10 +27,8 @@ left-keeps t l h = go (lifting t l) refl
     go : (x : Result) → lifting t l ≡ x → Keeps t (treeLeft t x)
     go (refused n) e = keeps-refl t h
     go (lifted u p n) e =
-        let K : LiftKeeps (postfix t) u = lift-keeps mostNodes (postfix t) (l .position) (l .levels) u p n (lift-of-tree mostNodes t (l .position) (l .levels) (omega arith) h ∙ e) in
-        let q : some (K .tree) ≡ some t = sym (K .given) ∙ tree-of-postfix t h in
-        let s : K .tree ≡ t = cc in
-        subst (λ (x : Tree). Keeps x u) s (K .keeps)
+        let K : LiftedKeeps t (l .levels) u p n = subst (Kept t (l .levels)) e (lift-in-keeps t (l .position) (l .levels) h) in
+        K .keeps
 
 -- the whole list
 pub after-keeps : (t : Tree) (ls : List LiftLine) → size t ≤ mostNodes → Keeps t (treeAfter t ls)

@@ -16,7 +16,7 @@ use Rattle.lift_lines.specs.declared.Progress.{Progress}
 
 -- bytes that a LIFT line has at most
 abbrev pub liftBytes : ℕ
-liftBytes = 20
+liftBytes = 16
 
 -- a list is the tree's list, within the limit
 pub record IsList (entries : List ℕ) (t : Tree) : Type 0 where

@@ -1,6 +1,7 @@
-// Lifts 01's samples (i) to (vi), lifts at every limit, and lifts that are refused with each number. Before each case every number of
-// the buffer is 60000. A line has the case; the number, the position and the looks that the key would print; the new tree's length; how
-// many numbers of the buffer still are 60000; a checksum of the whole buffer; and the new tree's first entries.
+// Lifts 01's samples (i) to (vi), (iv) and (vi) as request 2 changes them, lifts at every limit, and lifts that are refused with each number.
+// Before each case every number of the buffer is 60000. A line has the case; the number, the position and the looks that the key would
+// print; the new tree's length; how many numbers of the buffer still are 60000; a checksum of the whole buffer; and the new tree's first
+// entries.
 ghost use Prim.Native.Nat.{_≤_};
 ghost use lib.ListN.{length};
 use lift::Lifted;
@@ -210,18 +211,49 @@ fn results() {
     show(b"16 a result of 8193", &list, 0, 1);
 }
 
-// A difference subtracted from a difference and so on, 4,093 deep, under two unions: each step is passed on to the last.
-fn passed_on() {
-    let mut list = [7u16; 8191];
-    chain(&mut list, 8187, 4, UNION);
-    set_all(&mut list, 4094, 8187, DIFFERENCE);
-    show(b"passed on 4092 times", &list, 4093, 1);
+// A at level 2 in each of the states 5 to 9; state 6 is sample (iii).
+fn level_two() {
+    show(b"15 at level 2 in state 5", &[1, 2, 65001, 3, 65002], 0, 1);
+    show(b"15 in state 7", &[2, 1, 65002, 3, 65001], 1, 1);
+    show(b"15 in state 8", &[3, 1, 2, 65002, 65002], 1, 1);
+    show(b"15 in state 9", &[3, 2, 1, 65002, 65002], 2, 1);
+}
+
+// A at level 3 in state 9 under input a, c and d; under b it is sample (v), and deeper under d and a samples (iv) and (vi).
+fn state_nine() {
+    show(b"9 a", &[3, 2, 1, 65002, 65002, 4, 65001], 2, 1);
+    show(b"9 c", &[4, 3, 2, 1, 65002, 65002, 65001], 3, 1);
+    show(b"9 d", &[4, 3, 2, 1, 65002, 65002, 65002], 3, 1);
+}
+
+// Chains of 100 differences: nested to the left, to the right, and one that stays in state 9.
+fn differences() {
+    let mut left = [1u16; 201];
+    chain(&mut left, 1, 2, DIFFERENCE);
+    show(
+        b"100 differences, the first group by 99 levels",
+        &left,
+        0,
+        99,
+    );
+    let mut right = [7u16; 201];
+    set_all(&mut right, 101, 201, DIFFERENCE);
+    show(b"the last group by 98 levels", &right, 100, 98);
+    show(b"15 by 99 levels", &right, 100, 99);
+    let mut nine = [3u16; 201];
+    chain(&mut nine, 5, 4, DIFFERENCE);
+    put(&mut nine, 1, 2);
+    put(&mut nine, 2, 1);
+    set_all(&mut nine, 3, 5, DIFFERENCE);
+    show(b"in state 9 by 98 levels", &nine, 2, 98);
 }
 
 fn main() {
     samples();
     refusals();
+    level_two();
+    state_nine();
     long_chains();
     results();
-    passed_on();
+    differences();
 }

@@ -7,11 +7,11 @@ use Prim.Native.Nat.{ℕ, _+_}
 use native.Mathlib.Omega.{arith}
 use lib.Dec.{T, eqb, eqb→eq}
 use lib.ListN.{length, length-append}
-use Rattle.tree.specs.Tree.{Operator, difference, Tree, node, apply}
+use Rattle.tree.specs.Tree.{Operator, Tree, node, apply}
 use Rattle.tree.specs.Context.{Side, left, right, frame, sided, plug}
 use Rattle.tree.proofs.TreeLaws.{and-left, and-right}
 use Rattle.tree.proofs.ContextLaws.{plug-append}
-use Rattle.moves.specs.Moves.{Formula, A, B, C, D, join, Move, replaceT, replaceTWithD, passOnUnlessB, moveOf, stateOf, inputOf, under, namesA, value, framesOf, State, state1, state2, state3, state4, state5, state6, state7, state8, state9, Input, inputA, inputB, inputC, inputD}
+use Rattle.moves.specs.Moves.{Formula, A, B, C, D, join, Move, replaceT, replaceTWithD, moveOf, stateOf, inputOf, under, namesA, value, framesOf, State, state1, state2, state3, state4, state5, state6, state7, state8, state9, Input, inputA, inputB, inputC, inputD}
 use Rattle.moves.specs.InnerEntries.{entryOf}
 use Rattle.moves.proofs.Cases.{equal-bools, allFillings, at-filling, allKinds, at-kind}
 
@@ -54,7 +54,6 @@ formulaTWithD s o t q u w = sided u (join w) (formulaT s o t q) D
 abbrev pub right-move : Side → Operator → Side → Operator → Move → Bool
 right-move s o t q (replaceT p) = replaces p (formulaT s o t q)
 right-move s o t q (replaceTWithD w x y z) = allKinds (λ u k. replaces (under (inputOf u k) w x y z) (formulaTWithD s o t q u k))
-right-move s o t q (passOnUnlessB p) = replaces p (formulaTWithD s o t q left difference)
 
 -- the whole table
 pub every-move : (s : Side) (o : Operator) (t : Side) (q : Operator) → T (right-move s o t q (moveOf (stateOf s o t q)))
@@ -173,4 +172,4 @@ once-entry state5 i = at-input (λ i. once (entryOf (moveOf state5) i)) tt i
 once-entry state6 i = at-input (λ i. once (entryOf (moveOf state6) i)) tt i
 once-entry state7 i = at-input (λ i. once (entryOf (moveOf state7) i)) tt i
 once-entry state8 i = at-input (λ i. once (entryOf (moveOf state8) i)) tt i
-once-entry state9 i = tt
+once-entry state9 i = at-input (λ i. once (entryOf (moveOf state9) i)) tt i

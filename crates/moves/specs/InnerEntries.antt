@@ -1,6 +1,6 @@
 -- The numbers by which the code's tables are read, and a table's entry. No contract of one of 01's calls cites this file.
 use Prim.Native.Nat.{ℕ}
-use Rattle.moves.specs.Moves.{Formula, State, state1, state2, state3, state4, state5, state6, state7, state8, state9, Input, under, Move, replaceT, replaceTWithD, passOnUnlessB}
+use Rattle.moves.specs.Moves.{Formula, State, state1, state2, state3, state4, state5, state6, state7, state8, state9, Input, under, Move, replaceT, replaceTWithD}
 
 -- a state's number
 abbrev pub stateNumber : State → ℕ
@@ -22,4 +22,3 @@ inputNumber i = under i 0 1 2 3
 abbrev pub entryOf : Move → Input → Formula
 entryOf (replaceT p) i = p
 entryOf (replaceTWithD p q s t) i = under i p q s t
-entryOf (passOnUnlessB p) i = p

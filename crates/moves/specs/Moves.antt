@@ -1,4 +1,4 @@
--- Document 01, "The lift": the states, the inputs, the move entries (Table 9) and the next states (Table 10).
+-- Document 01, "The lift": the states, the inputs, the move entries (Table 9) and the next states (Table 10); state 9 by request 2 of 02.
 use mathlib.Core.Bool.{Bool, true, false, cond, _||_}
 use mathlib.Core.List.{List, [], _∷_, _++_}
 use Rattle.tree.specs.Tree.{Operator, union, difference, Tree, node}
@@ -54,15 +54,13 @@ under inputB a b c d = b
 under inputC a b c d = c
 under inputD a b c d = d
 
--- what a step does: it replaces T alone by a formula; or T with D, by one for each input a, b, c, d; or T with D under input b,
--- and under the others it is the step of A's parent
+-- what a step does: it replaces T alone by a formula; or T with D, by one for each input a, b, c, d
 pub data Move : Type 0 where
   replaceT : Formula → Move
   replaceTWithD : Formula → Formula → Formula → Formula → Move
-  passOnUnlessB : Formula → Move
 
--- "One step replaces, in states 1 to 4, T alone: .. In states 5 to 8 it replaces T with D: .. State 9 with b gives (C−D)−(B−A). With a, c
--- or d the step is the step of A's parent" (Table 9)
+-- "One step replaces, in states 1 to 4, T alone: .. In states 5 to 8 it replaces T with D: .. State 9 with b gives (C−D)−(B−A)" (Table 9);
+-- request 2: "With input a or c the step gives (C U D)−((B−D)−A), and with d it gives (D−C) U ((D−(D−B))−A)"
 abbrev pub moveOf : State → Move
 moveOf state1 = replaceT (A U (B U C))
 moveOf state2 = replaceT ((C − B) − A)
@@ -72,9 +70,9 @@ moveOf state5 = replaceTWithD ((D U (B − C)) U (A − C)) ((A − (C U D)) U (
 moveOf state6 = replaceTWithD ((D U C) U (A − B)) ((A − (B U D)) U (C − D)) ((A − B) U (D U C)) ((D − C) − (A − B))
 moveOf state7 = replaceTWithD ((D U C) U (B − A)) (((B − D) − A) U (C − D)) ((B − A) U (D U C)) ((D − C) − (B − A))
 moveOf state8 = replaceTWithD ((D U (C − (C − B))) U (C − A)) (((C − D) − A) U ((C − (C − B)) − D)) ((C − A) U (D U (C − (C − B)))) ((D − (C − (C − B))) − (C − A))
-moveOf state9 = passOnUnlessB ((C − D) − (B − A))
+moveOf state9 = replaceTWithD ((C U D) − ((B − D) − A)) ((C − D) − (B − A)) ((C U D) − ((B − D) − A)) ((D − C) U ((D − (D − B)) − A))
 
--- "The state after a step, under inputs a b c d"
+-- "The state after a step, under inputs a b c d"; request 2: "The next state is 9 for a, b and c, and 7 for d"
 abbrev pub nextState : State → Input → State
 nextState state1 i = under i state1 state5 state1 state2
 nextState state2 i = under i state7 state4 state7 state9
@@ -84,7 +82,7 @@ nextState state5 i = under i state6 state6 state6 state8
 nextState state6 i = under i state6 state6 state6 state8
 nextState state7 i = under i state7 state7 state7 state9
 nextState state8 i = under i state7 state7 state7 state9
-nextState state9 i = state9
+nextState state9 i = under i state9 state9 state9 state7
 
 -- a formula's value, of that of an operator and those of the parts
 abbrev pub value : {X : Type 0} → (Operator → X → X → X) → X → X → X → X → Formula → X

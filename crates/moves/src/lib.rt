@@ -14,8 +14,8 @@ use tree::DIFFERENCE;
 use tree::MOST_NODES;
 use tree::UNION;
 
-// Table 9: the move entries, operands before operators, + for union and - for difference: a row for each state, under inputs a b c d. In
-// states 1 to 4 they replace T alone, in states 5 to 8 T with D; state 9 uses its entry under b only.
+// Table 9, state 9 by request 2: the move entries, operands before operators, + for union and - for difference: a row for each state, under
+// inputs a b c d. In states 1 to 4 they replace T alone, in states 5 to 9 T with D.
 const MOVES: [[[u8; 13]; 4]; 9] = [
     [
         *b"ABC++        ",
@@ -66,10 +66,10 @@ const MOVES: [[[u8; 13]; 4]; 9] = [
         *b"DCCB---CA--  ",
     ],
     [
+        *b"CD+BD-A--    ",
         *b"CD-BA--      ",
-        *b"CD-BA--      ",
-        *b"CD-BA--      ",
-        *b"CD-BA--      ",
+        *b"CD+BD-A--    ",
+        *b"DC-DDB--A-+  ",
     ],
 ];
 
@@ -83,7 +83,7 @@ const NEXT: [[usize; 4]; 9] = [
     [6, 6, 6, 8],
     [7, 7, 7, 9],
     [7, 7, 7, 9],
-    [9, 9, 9, 9],
+    [9, 9, 9, 7],
 ];
 
 // What a replacement answers: its result is too long; or how many nodes the new tree has, and where A begins in it.
@@ -256,7 +256,7 @@ fn replace(
     requires { ⌜ (whole ≤ end) × (end ≤ length (now list)) ⌝ }
     requires { ⌜ (length (now list) ≤ mostNodes) × (mostNodes ≤ length (now out)) ⌝ }
     requires { ⌜ length (now word) ≤ mostSigns ⌝ }
-    ensures { λ r. ⌜ Replaced (now (list .entry)) from to (now (word .entry)) whole end (now (out .entry)) r (now (out .exit)) ⌝ }
+    ensures { λ r. ⌜ Replaced (now (list .entry)) from to (now (word .entry)) whole end r (now (out .exit)) ⌝ }
 {
     let nodes = whole + word_width(from, to, word) + (list.len() - end);
     if MOST_NODES < nodes {
@@ -283,7 +283,7 @@ pub fn replace_by_move(
     requires { ⌜ (whole ≤ end) × (end ≤ length (now list)) ⌝ }
     requires { ⌜ (length (now list) ≤ mostNodes) × (mostNodes ≤ length (now out)) ⌝ }
     requires { ⌜ (1 ≤ state) × (state ≤ 9) × (input < 4) ⌝ }
-    ensures { λ r. ⌜ EntryReplaced (now (list .entry)) from to state input whole end (now (out .entry)) r (now (out .exit)) ⌝ }
+    ensures { λ r. ⌜ EntryReplaced (now (list .entry)) from to state input whole end r (now (out .exit)) ⌝ }
 {
     let entry = move_word(state, input);
     replace(list, from, to, &entry, whole, end, out)

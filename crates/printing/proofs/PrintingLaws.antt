@@ -106,10 +106,10 @@ unfolding lines instructionRows AllWellFormed
 code-most [] w = omega arith
 code-most (i ∷ is) w = omega (arith, instruction-most i (w .0), code-most is (w .1), length-append (rowText (instructionRow i)) (lines (instructionRows is)))
 
--- a LIFT line: at most 20
-pub lift-most : (number position looks : ℕ) → number < 100 → position < 10000 → looks < 1000000 → length (line LIFT (number ∷ position ∷ looks ∷ [])) ≤ 20
+-- a LIFT line: at most 16
+pub lift-most : (number position looks : ℕ) → number < 100 → position < 10000 → looks < 100 → length (line LIFT (number ∷ position ∷ looks ∷ [])) ≤ 16
 lift-most number position looks n p k =
-    omega (arith, line-three LIFT number position looks, digits-length 1 number (omega arith), digits-length 3 position (omega arith), digits-length 5 looks (omega arith))
+    omega (arith, line-three LIFT number position looks, digits-length 1 number (omega arith), digits-length 3 position (omega arith), digits-length 1 looks (omega arith))
 
 -- a HELD line: at most 17
 pub held-most : (first count : ℕ) → first < 10000 → count < 10000 → length (line HELD (0 ∷ first ∷ count ∷ [])) ≤ 17

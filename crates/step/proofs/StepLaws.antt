@@ -1,85 +1,91 @@
--- Laws of a step: it keeps what the tree selects in every rig and the groups of its leaves, A's level falls by one, and the looks are at most A's level.
--- A step replaces a left side by an entry, or passes on (`Makes`); each law is an induction over that.
+-- Laws of a step: it keeps what the tree selects in every rig and the groups of its leaves, and A's level falls by one. A step replaces a left
+-- side by an entry (`Makes`); each law follows from that. When there is none: `stuck-exactly`.
 use mathlib.Core.Path.{_≡_, refl, sym, ap, subst, _∙_}
-use mathlib.Core.Bool.{Bool}
+use mathlib.Core.Bool.{Bool, true, false, true≢false, false≢true}
 use mathlib.Core.List.{List, [], _∷_, _++_}
-use Prim.Native.Nat.{ℕ, _+_, _≤_}
+use Prim.Native.Nat.{ℕ, _+_, _≤_, _<_}
 use native.Mathlib.Omega.{arith}
-use lib.Dec.{T}
+use borrow.Author.Tests.{le-leb, lt-leb, leb-false}
+use lib.Dec.{T, leb}
 use lib.ListN.{length, length-append}
-use Rattle.tree.specs.Tree.{Operator, union, difference, Tree, node, selects, apply, Over}
-use Rattle.tree.specs.Context.{Side, left, right, Frame, frame, sided, plug}
-use Rattle.moves.specs.Moves.{Formula, Move, replaceT, replaceTWithD, passOnUnlessB, moveOf, stateOf, inputOf, under, framesOf}
+use Rattle.tree.specs.Tree.{Operator, Tree, selects, apply, Over}
+use Rattle.tree.specs.Context.{Side, Frame, frame, plug}
+use Rattle.moves.specs.Moves.{Formula, Move, replaceT, replaceTWithD, State, state1, state2, state3, state4, state5, state6, state7, state8, state9, Input, moveOf, stateOf, inputOf, under, framesOf}
+use Rattle.moves.specs.InnerEntries.{stateNumber, entryOf}
 use Rattle.moves.proofs.Cases.{at-kind}
-use Rattle.moves.proofs.MoveLaws.{agree, both, replaces, Replaces, may-replace, formulaT, formulaTWithD, right-move, every-move, frames-level, frames-t, frames-t-with-d}
-use Rattle.step.specs.Step.{Outcome, stuck, moved, passedOn, stepBy, step}
+use Rattle.moves.proofs.MoveLaws.{agree, both, replaces, Replaces, may-replace, formulaT, formulaTWithD, right-move, every-move, levelOfA, frames-level, frames-t, frames-t-with-d}
 use Rattle.moves.proofs.EntryLaws.{evaluate, entry-same, evaluate-selects, over-evaluate, evaluate-over}
+use Rattle.step.specs.Step.{Outcome, stuck, moved, stepBy, step}
 
--- ---- what a step does
-pub data Makes : List Frame → Outcome → Type 0 where
-  none : {c : List Frame} → Makes c stuck
-  passes : (f : Frame) (c : List Frame) (up : Outcome) → Makes c up → Makes (f ∷ c) (passedOn f up)
-  replaced : {c e : List Frame} (p l : Formula) → Replaces p l → (b k d : Tree) (r : List Frame) → c ≡ framesOf b k d l ++ r → e ≡ framesOf b k d p ++ r → Makes c (moved e 1)
+-- ---- what a step does: an entry takes the place of a left side for which it may stand
+pub record Makes (c e : List Frame) : Type 0 where
+  pub entry : Formula
+  pub side : Formula
+  pub may : Replaces entry side
+  pub b : Tree
+  pub c′ : Tree
+  pub d : Tree
+  pub r : List Frame
+  pub was : c ≡ framesOf b c′ d side ++ r
+  pub is : e ≡ framesOf b c′ d entry ++ r
 
-made-t : (s : Side) (o : Operator) (t : Side) (q : Operator) (b c : Tree) (r : List Frame) (p : Formula) → T (replaces p (formulaT s o t q))
-    → Makes (frame s o b ∷ (frame t q c ∷ r)) (moved (framesOf b c c p ++ r) 1)
-made-t s o t q b c r p ok = replaced p (formulaT s o t q) (may-replace p (formulaT s o t q) ok) b c c r (ap (λ (x : List Frame). x ++ r) (sym (frames-t s o t q b c c))) refl
+abbrev Made : List Frame → Outcome → Type 0
+Made c stuck = Unit {0}
+Made c (moved e) = Makes c e
 
-made-t-with-d : (s : Side) (o : Operator) (t : Side) (q : Operator) (u : Side) (w : Operator) (b c d : Tree) (r : List Frame) (p : Formula) → T (replaces p (formulaTWithD s o t q u w))
-    → Makes (frame s o b ∷ (frame t q c ∷ (frame u w d ∷ r))) (moved (framesOf b c d p ++ r) 1)
-made-t-with-d s o t q u w b c d r p ok =
-    replaced p (formulaTWithD s o t q u w) (may-replace p (formulaTWithD s o t q u w) ok) b c d r (ap (λ (x : List Frame). x ++ r) (sym (frames-t-with-d s o t q u w b c d))) refl
+made : (s : Side) (o : Operator) (t : Side) (q : Operator) (b c : Tree) (r : List Frame) (m : Move) → T (right-move s o t q m)
+    → Made (frame s o b ∷ (frame t q c ∷ r)) (stepBy m b c r)
+made s o t q b c r (replaceT p) ok = record {
+  entry = p;
+  side = formulaT s o t q;
+  may = may-replace p (formulaT s o t q) ok;
+  b = b;
+  c′ = c;
+  d = c;
+  r = r;
+  was = ap (λ (x : List Frame). x ++ r) (sym (frames-t s o t q b c c));
+  is = refl;
+}
+made s o t q b c [] (replaceTWithD w x y z) ok = tt
+made s o t q b c (frame u k d ∷ r) (replaceTWithD w x y z) ok = record {
+  entry = under (inputOf u k) w x y z;
+  side = formulaTWithD s o t q u k;
+  may = may-replace (under (inputOf u k) w x y z) (formulaTWithD s o t q u k) (at-kind (λ u k. replaces (under (inputOf u k) w x y z) (formulaTWithD s o t q u k)) ok u k);
+  b = b;
+  c′ = c;
+  d = d;
+  r = r;
+  was = ap (λ (x : List Frame). x ++ r) (sym (frames-t-with-d s o t q u k b c d));
+  is = refl;
+}
 
-made : (s : Side) (o : Operator) (t : Side) (q : Operator) (b c : Tree) (r : List Frame) (m : Move) → T (right-move s o t q m) → (up : Outcome)
-    → Makes (frame t q c ∷ r) up → Makes (frame s o b ∷ (frame t q c ∷ r)) (stepBy m (frame s o b) b c r up)
-made s o t q b c r (replaceT p) ok up h = made-t s o t q b c r p ok
-made s o t q b c [] (replaceTWithD w x y z) ok up h = none
-made s o t q b c (frame u k d ∷ r) (replaceTWithD w x y z) ok up h =
-    made-t-with-d s o t q u k b c d r (under (inputOf u k) w x y z) (at-kind (λ u k. replaces (under (inputOf u k) w x y z) (formulaTWithD s o t q u k)) ok u k)
-made s o t q b c [] (passOnUnlessB p) ok up h = none
-made s o t q b c (frame left difference d ∷ r) (passOnUnlessB p) ok up h = made-t-with-d s o t q left difference b c d r p ok
-made s o t q b c (frame left union d ∷ r) (passOnUnlessB p) ok up h = passes (frame s o b) _ up h
-made s o t q b c (frame right union d ∷ r) (passOnUnlessB p) ok up h = passes (frame s o b) _ up h
-made s o t q b c (frame right difference d ∷ r) (passOnUnlessB p) ok up h = passes (frame s o b) _ up h
-
-pub makes : (c : List Frame) → Makes c (step c)
+made-step : (c : List Frame) → Made c (step c)
 unfolding step
-makes [] = none
-makes (f ∷ []) = none
-makes (frame s o b ∷ (frame t q c ∷ r)) =
-    made s o t q b c r (moveOf (stateOf s o t q)) (every-move s o t q) (step (frame t q c ∷ r)) (makes (frame t q c ∷ r))
+made-step [] = tt
+made-step (f ∷ []) = tt
+made-step (frame s o b ∷ (frame t q c ∷ r)) = made s o t q b c r (moveOf (stateOf s o t q)) (every-move s o t q)
+
+pub makes : (c e : List Frame) → step c ≡ moved e → Makes c e
+makes c e h = subst (Made c) h (made-step c)
 
 -- ---- a step keeps what the tree comes to, for operators that mean f
-module _ (f : Operator → Bool → Bool → Bool) (v : ℕ → Bool) where
-  abbrev Same : List Frame → Outcome → Type 0
-  Same c stuck = Unit {0}
-  Same c (moved e n) = (a : Tree) → evaluate f v (plug a e) ≡ evaluate f v (plug a c)
-
-  passed-same : (s : Side) (o : Operator) (b : Tree) (c : List Frame) (x : Outcome) → Same c x → Same (frame s o b ∷ c) (passedOn (frame s o b) x)
-  unfolding plug
-  passed-same s o b c stuck h = tt
-  passed-same s o b c (moved e n) h = λ a. h (sided s (node o) a b)
-
-  module _ (ok : (p l : Formula) → Replaces p l → T (agree f p l)) where
-    made-same : {c : List Frame} {x : Outcome} → Makes c x → Same c x
-    made-same none = tt
-    made-same (passes (frame s o b) c x h) = passed-same s o b c x (made-same h)
-    made-same (replaced {c} {e} p l R b k d r q q′) = λ a.
-        ap (λ (x : List Frame). evaluate f v (plug a x)) q′ ∙ entry-same f v p l (R .once-new) (R .once-old) (ok p l R) a b k d r
-        ∙ sym (ap (λ (x : List Frame). evaluate f v (plug a x)) q)
-
-    step-same : (c e : List Frame) (n : ℕ) → step c ≡ moved e n → (a : Tree) → evaluate f v (plug a e) ≡ evaluate f v (plug a c)
-    step-same c e n h = subst (Same c) h (made-same (makes c))
+step-same : (f : Operator → Bool → Bool → Bool) → ((p l : Formula) → Replaces p l → T (agree f p l)) → (v : ℕ → Bool) (c e : List Frame) → step c ≡ moved e → (a : Tree)
+    → evaluate f v (plug a e) ≡ evaluate f v (plug a c)
+step-same f ok v c e h a =
+    let M = makes c e h in
+    ap (λ (x : List Frame). evaluate f v (plug a x)) (M .is)
+    ∙ entry-same f v (M .entry) (M .side) (M .may .once-new) (M .may .once-old) (ok (M .entry) (M .side) (M .may)) a (M .b) (M .c′) (M .d) (M .r)
+    ∙ sym (ap (λ (x : List Frame). evaluate f v (plug a x)) (M .was))
 
 -- ---- "Two trees are equivalent if they select the same lamps in every rig": a step keeps what the tree selects
-pub step-selects : (c e : List Frame) (n : ℕ) → step c ≡ moved e n → (v : ℕ → Bool) (a : Tree) → selects v (plug a e) ≡ selects v (plug a c)
-step-selects c e n h v a =
-    sym (evaluate-selects v (plug a e)) ∙ step-same apply v (λ p l R. R .selects-same) c e n h a ∙ evaluate-selects v (plug a c)
+pub step-selects : (c e : List Frame) → step c ≡ moved e → (v : ℕ → Bool) (a : Tree) → selects v (plug a e) ≡ selects v (plug a c)
+step-selects c e h v a =
+    sym (evaluate-selects v (plug a e)) ∙ step-same apply (λ p l R. R .selects-same) v c e h a ∙ evaluate-selects v (plug a c)
 
 -- ---- a step keeps which groups the leaves have
-module _ (c e : List Frame) (n : ℕ) (h : step c ≡ moved e n) (m : ℕ → Bool) (a : Tree) where
+module _ (c e : List Frame) (h : step c ≡ moved e) (m : ℕ → Bool) (a : Tree) where
   same-groups : evaluate both m (plug a e) ≡ evaluate both m (plug a c)
-  same-groups = step-same both m (λ p l R. R .parts-same) c e n h a
+  same-groups = step-same both (λ p l R. R .parts-same) m c e h a
 
   pub step-over : Over m (plug a c) → Over m (plug a e)
   step-over o = evaluate-over m (plug a e) (same-groups ∙ over-evaluate m (plug a c) o)
@@ -87,22 +93,79 @@ module _ (c e : List Frame) (n : ℕ) (h : step c ≡ moved e n) (m : ℕ → Bo
   pub step-over-back : Over m (plug a e) → Over m (plug a c)
   step-over-back o = evaluate-over m (plug a c) (sym same-groups ∙ over-evaluate m (plug a e) o)
 
--- ---- A's level falls by exactly one, and a step looks at no more nodes than there are above A
-abbrev Falls : List Frame → Outcome → Type 0
-Falls c stuck = Unit {0}
-Falls c (moved e n) = (length e + 1 ≡ length c) × (n ≤ length c)
+-- ---- A's level falls by exactly one
+pub step-level : (c e : List Frame) → step c ≡ moved e → length e + 1 ≡ length c
+step-level c e h =
+    let M = makes c e h in
+    omega (arith, M .may .higher, ap length (M .was), ap length (M .is), level (M .side), level (M .entry))
+  where
+    level : (p : Formula) → let M = makes c e h in length (framesOf (M .b) (M .c′) (M .d) p ++ M .r) ≡ levelOfA p + length (M .r)
+    level p =
+        let M = makes c e h in
+        length-append (framesOf (M .b) (M .c′) (M .d) p) (M .r) ∙ ap (λ (n : ℕ). n + length (M .r)) (frames-level (M .b) (M .c′) (M .d) p)
 
-made-falls : {c : List Frame} {x : Outcome} → Makes c x → Falls c x
-made-falls none = tt
-made-falls (passes k c stuck h) = tt
-made-falls (passes k c (moved e n) h) = let z = made-falls h in omega arith
-made-falls (replaced {c} {e} p l R b k d r q q′) =
-    let x : length c ≡ length (framesOf b k d l) + length r = ap length q ∙ length-append (framesOf b k d l) r in
-    let y : length e ≡ length (framesOf b k d p) + length r = ap length q′ ∙ length-append (framesOf b k d p) r in
-    omega (arith, R .higher, frames-level b k d l, frames-level b k d p)
+-- ---- a step by its state's number: states 1 to 4 replace T alone, states 5 to 9 T with D
+abbrev alone : Move → Bool
+alone (replaceT p) = true
+alone (replaceTWithD p q s t) = false
 
-pub step-level : (c e : List Frame) (n : ℕ) → step c ≡ moved e n → length e + 1 ≡ length c
-step-level c e n h = subst (Falls c) h (made-falls (makes c)) .0
+alone-number : (x : State) → alone (moveOf x) ≡ leb (stateNumber x) 4
+alone-number state1 = refl
+alone-number state2 = refl
+alone-number state3 = refl
+alone-number state4 = refl
+alone-number state5 = refl
+alone-number state6 = refl
+alone-number state7 = refl
+alone-number state8 = refl
+alone-number state9 = refl
 
-pub step-looks : (c e : List Frame) (n : ℕ) → step c ≡ moved e n → n ≤ length c
-step-looks c e n h = subst (Falls c) h (made-falls (makes c)) .1
+pub by-t : (x : State) (i : Input) (b c : Tree) (r : List Frame) → stateNumber x ≤ 4 → stepBy (moveOf x) b c r ≡ moved (framesOf b c c (entryOf (moveOf x) i) ++ r)
+by-t x i b c r h = go (moveOf x) (alone-number x ∙ le-leb (stateNumber x) 4 h)
+  where
+    go : (m : Move) → alone m ≡ true → stepBy m b c r ≡ moved (framesOf b c c (entryOf m i) ++ r)
+    go (replaceT p) e = refl
+    go (replaceTWithD p q s t) e = absurd (false≢true e)
+
+pub no-d : (x : State) (b c : Tree) → 4 < stateNumber x → stepBy (moveOf x) b c [] ≡ stuck
+no-d x b c h = go (moveOf x) (alone-number x ∙ lt-leb (stateNumber x) 4 h)
+  where
+    go : (m : Move) → alone m ≡ false → stepBy m b c [] ≡ stuck
+    go (replaceT p) e = absurd (true≢false e)
+    go (replaceTWithD p q s t) e = refl
+
+pub by-t-with-d : (x : State) (b c : Tree) (u : Side) (w : Operator) (d : Tree) (r : List Frame) → 4 < stateNumber x
+    → stepBy (moveOf x) b c (frame u w d ∷ r) ≡ moved (framesOf b c d (entryOf (moveOf x) (inputOf u w)) ++ r)
+by-t-with-d x b c u w d r h = go (moveOf x) (alone-number x ∙ lt-leb (stateNumber x) 4 h)
+  where
+    go : (m : Move) → alone m ≡ false → stepBy m b c (frame u w d ∷ r) ≡ moved (framesOf b c d (entryOf m (inputOf u w)) ++ r)
+    go (replaceT p) e = absurd (true≢false e)
+    go (replaceTWithD p q s t) e = refl
+
+-- ---- request 2: "A step is refused with 15 exactly when A is at level 2 in states 5 to 9", of any context of at least two frames
+pub record Exactly (P Q : Type 0) : Type 0 where
+  pub only-if : P → Q
+  pub if : Q → P
+
+refused : (m : Move) (b c : Tree) (r : List Frame) → stepBy m b c r ≡ stuck → (r ≡ []) × (alone m ≡ false)
+refused (replaceT p) b c r h = absurd (let z : _≡_ {A = ℕ} 0 1 = cc in omega arith)
+refused (replaceTWithD p q s t) b c [] h = (refl, refl)
+refused (replaceTWithD p q s t) b c (frame u w d ∷ r) h = absurd (let z : _≡_ {A = ℕ} 0 1 = cc in omega arith)
+
+pub stuck-exactly : (s : Side) (o : Operator) (b : Tree) (t : Side) (q : Operator) (c : Tree) (r : List Frame)
+    → let above = frame s o b ∷ (frame t q c ∷ r) in
+    Exactly (step above ≡ stuck) ((length above ≡ 2) × (5 ≤ stateNumber (stateOf s o t q)))
+unfolding step
+stuck-exactly s o b t q c r = record {
+  only-if = λ h.
+      let R = refused (moveOf x) b c r h in
+      (ap (λ (y : List Frame). length (frame s o b ∷ (frame t q c ∷ y))) (R .0), leb-false (stateNumber x) 4 (sym (alone-number x) ∙ R .1));
+  if = λ h. ap (stepBy (moveOf x) b c) (none-left r (h .0)) ∙ no-d x b c (h .1);
+}
+  where
+    x : State
+    x = stateOf s o t q
+
+    none-left : (r : List Frame) → length (frame s o b ∷ (frame t q c ∷ r)) ≡ 2 → r ≡ []
+    none-left [] e = refl
+    none-left (f ∷ r) e = absurd (omega arith)

@@ -1,33 +1,28 @@
-// One step of a lift by Table 9: what the frames above a node make of it, and the step carried out.
+// One step of a lift by Table 9: what the three frames above a node make of it, and the step carried out.
 ghost use mathlib.Core.Path.{_≡_};
 ghost use mathlib.Core.List.{List};
 ghost use Prim.Native.Nat.{_≤_, _<_};
 ghost use lib.ListN.{length};
 ghost use Rattle.tree.specs.Tree.{Operator, Tree, mostNodes};
 ghost use Rattle.tree.specs.Context.{Side, Frame};
-ghost use Rattle.tree.specs.InnerPart.{Part, Located, kindOf, aboveOf};
+ghost use Rattle.tree.specs.InnerPart.{Part, Located, kindOf};
 ghost use Rattle.moves.specs.Moves.{stateOf};
 ghost use Rattle.moves.specs.InnerEntries.{stateNumber};
 ghost use Rattle.step.specs.InnerStanding.{StateIs, Standing, Stands};
-ghost use Rattle.step.specs.InnerSteps.{framedAs, Planned, StepIs, oneLook, passedAnswer, Small};
+ghost use Rattle.step.specs.InnerSteps.{FrameIs, Planned, StepIs};
 use moves::Replacement;
 use tree::Above;
 
 // The state by A's kind and its parent's: A U B, A - B, B U A, B - A, and the same with the parent's part for A and C for B.
 const STATES: [[usize; 4]; 4] = [[1, 5, 1, 2], [6, 3, 6, 8], [1, 5, 1, 2], [7, 4, 7, 9]];
 
-// States 1 to 4 replace T alone; state 9 passes its step on, but not under input b.
+// States 1 to 4 replace T alone, the others T with D.
 const LAST_ALONE: usize = 4;
 
-const PASSING: usize = 9;
-
-const INPUT_B: usize = 1;
-
-// A node of a tree's list: its part's entries, from `from` up to, not including, `to`; its level; and its state, where it has a grandparent.
+// A node of a tree's list: its part's entries, from `from` up to, not including, `to`; and its state, where it has a grandparent.
 pub struct Node {
     pub from: usize,
     pub to: usize,
-    pub level: usize,
     pub state: usize,
 }
 
@@ -43,24 +38,17 @@ pub enum Framed {
     Under(u8, Stretch, Stretch),
 }
 
-// What a step does: nothing; the step of the parent; or it replaces a stretch by a move entry. `Up` has the parent and the input, `Here`
-// the input, the stretches of B, C and D and the one replaced.
+// What a step does: nothing; or, with this input and these stretches of B, C and D, it replaces the last stretch by a move entry.
 pub enum Plan {
     Stuck,
-    Up(Node, usize),
-    Here(usize, Stretch, Stretch, Stretch, Stretch),
+    Replace(usize, Stretch, Stretch, Stretch, Stretch),
 }
 
-// A step's answer: there is none (15); its result is too long (16); or how many nodes the new tree has, where A begins, the looks and the input.
+// A step's answer: there is none (15); its result is too long (16); or how many nodes the new tree has, and A in it.
 pub enum Stepped {
     Stuck,
     TooLong,
-    Done {
-        nodes: usize,
-        from: usize,
-        looks: usize,
-        input: usize,
-    },
+    Done(usize, Node),
 }
 
 // The state of a part, by its own kind and its parent's.
@@ -75,7 +63,7 @@ fn state_of(own: u8, parent: u8) -> usize
 // The innermost frame of a part.
 fn frame_above(list: &[u16], part: Stretch) -> Framed
     requires { ⌜ Located (now list) (part .from) (part .to) ⌝ }
-    ensures { λ r. ⌜ ((a : Tree) (c : List Frame) → Part (now (list .entry)) (part .from) (part .to) a c → r ≡ framedAs (aboveOf (part .from) (part .to) c)) ⌝ }
+    ensures { λ r. ⌜ ((a : Tree) (c : List Frame) → Part (now (list .entry)) (part .from) (part .to) a c → FrameIs (now (list .entry)) a c r) ⌝ }
 {
     match tree::above_part(list, part.from, part.to) {
         Above::Root => Framed::Root,
@@ -102,7 +90,7 @@ fn frame_above(list: &[u16], part: Stretch) -> Framed
 // What the step of a node is. The frames above it give B, C with T, and D with the input and the stretch of T with D.
 fn plan_step(list: &[u16], node: Node) -> Plan
     requires { ⌜ Stands (now list) node ⌝ }
-    ensures { λ r. ⌜ ((a : Tree) (c : List Frame) → Standing (now (list .entry)) node a c → Planned (now (list .entry)) node a c r) ⌝ }
+    ensures { λ r. ⌜ ((a : Tree) (c : List Frame) → Standing (now (list .entry)) node a c → Planned (now (list .entry)) node c r) ⌝ }
 {
     let part = Stretch {
         from: node.from,
@@ -111,89 +99,42 @@ fn plan_step(list: &[u16], node: Node) -> Plan
     let Framed::Under(_, b, parent) = frame_above(list, part) else {
         return Plan::Stuck;
     };
-    let Framed::Under(parent_kind, c, t) = frame_above(list, parent) else {
+    let Framed::Under(_, c, t) = frame_above(list, parent) else {
         return Plan::Stuck;
     };
     let Framed::Under(kind, d, whole) = frame_above(list, t) else {
         if node.state <= LAST_ALONE {
-            return Plan::Here(0, b, c, c, t);
+            return Plan::Replace(0, b, c, c, t);
         }
         return Plan::Stuck;
     };
     let input = kind as usize;
-    if node.state <= LAST_ALONE {
-        return Plan::Here(input, b, c, d, t);
+    if LAST_ALONE < node.state {
+        return Plan::Replace(input, b, c, d, whole);
     }
-    if (node.state == PASSING) & (input != INPUT_B) {
-        let state = state_of(parent_kind, kind);
-        let up = Node {
-            from: parent.from,
-            to: parent.to,
-            level: node.level - 1,
-            state,
-        };
-        return Plan::Up(up, input);
-    }
-    Plan::Here(input, b, c, d, whole)
+    Plan::Replace(input, b, c, c, t)
 }
 
-// The answer of a step that replaced a stretch: one look.
-fn one_look(made: Replacement, input: usize) -> Stepped
-    ensures { λ r. ⌜ r ≡ oneLook made input ⌝ }
-{
-    match made {
-        Replacement::TooLong => Stepped::TooLong,
-        Replacement::Done { nodes, from } => Stepped::Done {
-            nodes,
-            from,
-            looks: 1,
-            input,
-        },
-    }
-}
-
-// The answer of a step that is passed on to the parent: A begins as much later as it did in its parent's part, and looks are one more.
-fn passed_on(up: Stepped, later: usize, input: usize) -> Stepped
-    requires { ⌜ Small up later ⌝ }
-    ensures { λ r. ⌜ r ≡ passedAnswer up later input ⌝ }
-{
-    match up {
-        Stepped::Stuck => Stepped::Stuck,
-        Stepped::TooLong => Stepped::TooLong,
-        Stepped::Done {
-            nodes,
-            from,
-            looks,
-            input: _,
-        } => Stepped::Done {
-            nodes,
-            from: from + later,
-            looks: looks + 1,
-            input,
-        },
-    }
-}
-
-// One step of a lift, written to `out`. Where it is passed on it calls itself on the parent, whose level is one less.
+// One step of a lift, written to `out`. The node's next state is read from the table.
 pub fn step(list: &[u16], node: Node, out: &mut [u16]) -> Stepped
     requires { ⌜ Stands (now list) node ⌝ }
     requires { ⌜ (length (now list) ≤ mostNodes) × (mostNodes ≤ length (now out)) ⌝ }
-    ensures { λ r. ⌜ ((a : Tree) (c : List Frame) → Standing (now (list .entry)) node a c → StepIs a c (now (out .entry)) r (now (out .exit))) ⌝ }
+    ensures { λ r. ⌜ ((a : Tree) (c : List Frame) → Standing (now (list .entry)) node a c → StepIs a c r (now (out .exit))) ⌝ }
 {
-    match plan_step(list, node) {
-        Plan::Stuck => Stepped::Stuck,
-        Plan::Up(parent, input) => passed_on(
-            step(list, parent, out),
-            node.from - parent.from,
-            input,
-        ),
-        Plan::Here(input, b, c, d, old) => {
-            let from = [node.from, b.from, c.from, d.from];
-            let to = [node.to, b.to, c.to, d.to];
-            one_look(
-                moves::replace_by_move(list, from, to, node.state, input, old.from, old.to, out),
-                input,
-            )
+    let Plan::Replace(input, b, c, d, old) = plan_step(list, node) else {
+        return Stepped::Stuck;
+    };
+    let from = [node.from, b.from, c.from, d.from];
+    let to = [node.to, b.to, c.to, d.to];
+    match moves::replace_by_move(list, from, to, node.state, input, old.from, old.to, out) {
+        Replacement::TooLong => Stepped::TooLong,
+        Replacement::Done { nodes, from: start } => {
+            let next = Node {
+                from: start,
+                to: start + (node.to - node.from),
+                state: moves::next_state(node.state, input),
+            };
+            Stepped::Done(nodes, next)
         }
     }
 }

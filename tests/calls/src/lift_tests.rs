@@ -1,14 +1,16 @@
-//! `lift`: random lifts, chains, the node limit and the order of faults.
+//! `lift`: random lifts, state 9, level 2, chains, the node limit and the order of faults.
 
 use crate::faults::{choices, Fault};
 use crate::inputs::{buffer_length, chain, filled, list, numbers, same, same_buffer};
 use calls::library;
-use reference::calls::{lift_call, TREE_BUFFER};
+use reference::calls::{lift_call, LiftAnswer, TREE_BUFFER};
+use reference::check::{ensure, table};
+use reference::gather::numbered;
 use reference::lift::lift;
 use reference::random::Random;
 use reference::report::Report;
 use reference::shape::{join, levels_of_nodes, Shape};
-use reference::tree::{Nodes, Operator, DIFFERENCE, MAXIMUM_NODES, UNION};
+use reference::tree::{groups, Nodes, Operator, DIFFERENCE, LAST_GROUP, MAXIMUM_NODES, UNION};
 
 struct Input {
     tree: Vec<u16>,
@@ -17,12 +19,48 @@ struct Input {
     buffer: usize,
 }
 
+impl Input {
+    /// The library's answer and the buffer after it.
+    fn call(&self) -> (LiftAnswer, Vec<u16>) {
+        let mut out = filled(self.buffer);
+        (library::lift(&self.tree, self.position, self.levels, &mut out), out)
+    }
+}
+
+/// The part that ends at a position, and its level.
+fn part(tree: &[u16], position: usize) -> (&[u16], usize) {
+    let size = Nodes::parse(tree).expect("a tree").size(position);
+    (&tree[position + 1 - size..=position], levels_of_nodes(tree)[position])
+}
+
+/// A tree's table; over more than eight groups they are put into eight classes, and equivalent trees stay so.
+fn meaning(tree: &[u16], groups: &[u16]) -> [u64; 4] {
+    let class = |number: u16| if number <= LAST_GROUP { number % 8 + 1 } else { number };
+    let tree: Vec<u16> = numbered(tree, groups).into_iter().map(class).collect();
+    table(&tree, &[1, 2, 3, 4, 5, 6, 7, 8])
+}
+
+/// What must hold of every done lift, whatever its steps: looks as many as levels, A whole and so many levels higher,
+/// and an equivalent tree.
+fn done_lift(input: &Input, answer: &LiftAnswer, out: &[u16]) -> Result<(), String> {
+    let [_, length, position, looks] = answer.map(|number| number as usize);
+    let lifted = &out[..length];
+    let (given_part, level) = part(&input.tree, input.position);
+    same("looks", &looks, &input.levels)?;
+    same("A and its level", &part(lifted, position), &(given_part, level - input.levels))?;
+    let groups = groups(&input.tree);
+    same("table", &meaning(lifted, &groups), &meaning(&input.tree, &groups))
+}
+
 /// Calls the library and the reference alike and compares everything.
 fn compare(name: &str, input: &Input, report: &mut Report) -> u32 {
-    let (mut out, mut expected_out) = (filled(input.buffer), filled(input.buffer));
+    let mut expected_out = filled(input.buffer);
     let expected = lift_call(&input.tree, input.position, input.levels, &mut expected_out);
-    let answer = library::lift(&input.tree, input.position, input.levels, &mut out);
-    let result = same("answer", &answer, &expected).and_then(|()| same_buffer(&out, &expected_out));
+    let (answer, out) = input.call();
+    let mut result = same("answer", &answer, &expected).and_then(|()| same_buffer(&out, &expected_out));
+    if answer[0] == 0 {
+        result = result.and_then(|()| done_lift(input, &answer, &out));
+    }
     let rest = format!("position {} levels {} buffer {}\n", input.position, input.levels, input.buffer);
     let text = numbers("tree", &input.tree) + &rest;
     report.count(format!("lift: {name}"));
@@ -46,6 +84,15 @@ fn random_lift(random: &mut Random) -> Input {
 struct Frames(Vec<(Vec<u16>, Operator, bool)>);
 
 impl Frames {
+    /// Frames by 01's input letters; each sibling is a leaf: group 1, group 2, and then groups 3 to 7 again and again.
+    fn of_inputs(inputs: impl Iterator<Item = char>) -> Frames {
+        let frame = |(input, group): (char, u16)| {
+            let operator = if matches!(input, 'a' | 'c') { Operator::Union } else { Operator::Difference };
+            (vec![group], operator, matches!(input, 'a' | 'b'))
+        };
+        Frames(inputs.zip((1..=2).chain((3..=7).cycle())).map(frame).collect())
+    }
+
     fn random(random: &mut Random) -> Frames {
         let groups: Vec<u16> = (1..=8).collect();
         let frame = |random: &mut Random| {
@@ -78,6 +125,108 @@ fn lift_to(result: usize, random: &mut Random) -> Option<Input> {
     let part = Shape::any(random).tree(size.div_ceil(2), &[9], random);
     let (tree, position) = frames.around(&part);
     (tree.len() <= MAXIMUM_NODES).then_some(Input { tree, position, levels, buffer: TREE_BUFFER })
+}
+
+/// State 9 under inputs a to d, and what one step makes of it (02, Ticket 2). Operands come first.
+const STATE_9: [(&str, &str); 4] =
+    [("CBA--D+", "CD+BD-A--"), ("CBA--D-", "CD-BA--"), ("DCBA--+", "CD+BD-A--"), ("DCBA---", "DC-DDB--A-+")];
+
+/// States 5 to 9 without D.
+const WITHOUT_D: [&str; 8] = ["AB+C-", "BA+C-", "AB-C+", "CAB-+", "BA-C+", "CBA-+", "CAB--", "CBA--"];
+
+/// The tree that a word stands for when these are A to D, and A's position in it.
+fn tree_of(word: &str, parts: &[Vec<u16>; 4]) -> (Vec<u16>, usize) {
+    let (mut tree, mut position) = (Vec::new(), 0);
+    for sign in word.bytes() {
+        match sign {
+            b'+' => tree.push(UNION),
+            b'-' => tree.push(DIFFERENCE),
+            letter => tree.extend(&parts[usize::from(letter - b'A')]),
+        }
+        if sign == b'A' {
+            position = tree.len() - 1;
+        }
+    }
+    (tree, position)
+}
+
+/// A to D, each with two groups of its own.
+fn four_parts(random: &mut Random) -> [Vec<u16>; 4] {
+    [[1, 2], [3, 4], [5, 6], [7, 8]].map(|groups| {
+        let leaves = random.between(1, 20);
+        Shape::any(random).tree(leaves, &groups, random)
+    })
+}
+
+/// One step in state 9, with frames above D or without, beside the tree of 02's word.
+fn state_9(frames: &Frames, words: (&str, &str), name: &str, random: &mut Random, report: &mut Report) {
+    let parts = four_parts(random);
+    let whole = |word: &str| {
+        let (part, position) = tree_of(word, &parts);
+        let (tree, end) = frames.around(&part);
+        (tree, end + 1 - part.len() + position)
+    };
+    let (tree, position) = whole(words.0);
+    let (expected, expected_position) = whole(words.1);
+    let input = Input { tree, position, levels: 1, buffer: TREE_BUFFER };
+    compare(name, &input, report);
+    let (answer, out) = input.call();
+    let due = [0, expected.len() as u32, expected_position as u32, 1];
+    let result = same("answer", &answer, &due).and_then(|()| same_buffer(&out, &expected));
+    report.test(&format!("lift, {name} by hand"), result);
+}
+
+/// A lift whose last step is at level 2 in states 5 to 9.
+fn level_2(word: &str, levels: usize, random: &mut Random, report: &mut Report) {
+    let (tree, position) = tree_of(word, &four_parts(random));
+    let answered = compare("level 2", &Input { tree, position, levels, buffer: TREE_BUFFER }, report);
+    report.test("lift, level 2 by hand", same("number", &answered, &15));
+}
+
+fn states(random: &mut Random, report: &mut Report) {
+    for _ in 0..100 {
+        for words in STATE_9 {
+            state_9(&Frames(Vec::new()), words, "state 9 at level 3", random, report);
+            state_9(&Frames::random(random), words, "state 9 deeper", random, report);
+            // The first step leads to state 9 or 7.
+            level_2(words.0, 2, random, report);
+        }
+        for word in WITHOUT_D {
+            level_2(word, 1, random, report);
+        }
+    }
+}
+
+/// A leaf is lifted by 99 levels, from level 100 to 1 if there is such a step, or from level 101 to 2.
+fn long_chains(report: &mut Report) {
+    let leaf = 8;
+    let state_9: &[u16] = &[leaf, DIFFERENCE, DIFFERENCE];
+    let state_7: &[u16] = &[leaf, DIFFERENCE, UNION];
+    // The lowest two inputs, the others in turn, the answer from level 100, and the end of the tree from level 101.
+    let chains = [
+        ("bb", "b", 0, &[DIFFERENCE][..]), // ((x−1)−2)−..: state 3 at every step
+        ("dd", "d", 15, state_7),          // 1−(2−(..−x)): states 9 and 7 in turn
+        ("dd", "a", 15, state_9),          // state 9 at every step, here and below
+        ("dd", "b", 15, state_9),
+        ("dd", "c", 15, state_9),
+        ("dd", "abc", 15, state_9),
+    ];
+    for (lowest, others, from_level_100, end) in chains {
+        let input_at = |level: usize| {
+            let inputs = lowest.chars().chain(others.chars().cycle()).take(level);
+            let (tree, position) = Frames::of_inputs(inputs).around(&[leaf]);
+            Input { tree, position, levels: 99, buffer: TREE_BUFFER }
+        };
+        let name = format!("99 levels, inputs {lowest} and {others}");
+        let answered = compare(&name, &input_at(100), report);
+        report.test(&format!("lift, {name}, from level 100"), same("number", &answered, &from_level_100));
+        let input = input_at(101);
+        compare(&name, &input, report);
+        let (answer, out) = input.call();
+        let tree = out.get(..answer[1] as usize).unwrap_or_default();
+        let result = ensure(tree.ends_with(end), "the lift is not done or its tree ends otherwise");
+        report.test(&format!("lift, {name}, from level 101"), result);
+    }
 }
 
 fn limits(report: &mut Report) {
@@ -130,6 +279,8 @@ pub fn run(report: &mut Report) {
             report.test("lift, number at the node limit", same("number", &answered, &due));
         }
     }
+    states(&mut random, report);
+    long_chains(report);
     limits(report);
     fault_order(report);
 }

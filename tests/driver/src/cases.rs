@@ -100,7 +100,7 @@ const REFUSED: [(&str, &str); 62] = [
     ("G 1/E /", "NO 2 2/"),
 ];
 
-/// 01's example and its samples; where no key stands the gathered tree is free.
+/// 01's example and its samples, (iv) and (vi) as 02 has them; where no key stands the gathered tree is free.
 const SAMPLES: [(&str, &str); 14] = [
     (
         "G 1/G 2/D/G 3/D/G 4/U/G 5/D/L 0 2/K 2/K 3/E/",
@@ -110,7 +110,7 @@ const SAMPLES: [(&str, &str); 14] = [
     ("G 1/G 2/D/G 3/U/L 0 1/E/", "LIFT 15 0 0/LOAD 0 1/LOAD 1 2/CUT 0 0 1/LOAD 1 3/ADD 0 0 1/"),
     (
         "G 5/G 4/G 3/G 2/G 1/D/D/D/D/L 4 1/E/",
-        "LIFT 15 4 0/LOAD 0 2/LOAD 1 1/CUT 0 0 1/LOAD 1 3/CUT 0 1 0/LOAD 1 4/CUT 0 1 0/LOAD 1 5/CUT 0 1 0/",
+        "LIFT 0 9 1/LOAD 0 4/LOAD 1 3/CUT 0 0 1/LOAD 1 4/LOAD 2 2/CUT 1 1 2/LOAD 2 4/CUT 1 2 1/LOAD 2 1/CUT 1 1 2/ADD 0 0 1/LOAD 1 5/CUT 0 1 0/",
     ),
     (
         "G 3/G 2/G 1/D/D/G 4/D/L 2 1/E/",
@@ -118,7 +118,7 @@ const SAMPLES: [(&str, &str); 14] = [
     ),
     (
         "G 3/G 2/G 1/D/D/G 4/U/G 5/U/L 2 1/E/",
-        "LIFT 0 5 2/LOAD 0 5/LOAD 1 4/ADD 0 0 1/LOAD 1 2/LOAD 2 1/CUT 1 1 2/LOAD 2 3/CUT 1 2 1/ADD 0 0 1/",
+        "LIFT 0 6 1/LOAD 0 3/LOAD 1 4/ADD 0 0 1/LOAD 1 2/LOAD 2 4/CUT 1 1 2/LOAD 2 1/CUT 1 1 2/CUT 0 0 1/LOAD 1 5/ADD 0 0 1/",
     ),
     ("G 1/G 3/D/G 2/G 4/D/U/K 1/K 2/E/", "HELD 19/"),
     ("G 1/G 3/D/G 2/G 3/D/U/K 1/K 2/E/", ""),

@@ -13,15 +13,16 @@ use reference::tree::{groups, Node, Nodes, Operator, DIFFERENCE, UNION};
 /// A kind of sheet and how many of a hundred are of it.
 type Kind = (&'static str, usize, fn(&mut Random) -> Vec<u8>);
 
-pub const KINDS: [Kind; 14] = [
+pub const KINDS: [Kind; 15] = [
     ("plain", 5, |random| plain(random).print()),
-    ("lifted", 14, |random| lifted(random).print()),
-    ("nested differences lifted", 10, |random| nested(random).print()),
+    ("lifted", 11, |random| lifted(random).print()),
+    ("lifted near the root", 7, |random| lifted_near_root(random).print()),
+    ("nested differences lifted", 8, |random| nested(random).print()),
     ("marked", 6, |random| marked(random).print()),
     ("mostly not gatherable", 8, |random| not_gatherable(random).print()),
-    ("few groups marked", 10, |random| few_groups(random).print()),
+    ("few groups marked", 9, |random| few_groups(random).print()),
     ("gathered", 6, |random| gathered(random).print()),
-    ("gathered and distorted", 9, |random| distorted(random).print()),
+    ("gathered and distorted", 8, |random| distorted(random).print()),
     ("gatherable table", 5, |random| gatherable(random).print()),
     ("lifted and marked", 9, |random| lifted_and_marked(random).print()),
     ("grown to the node limit", 1, |random| grown(random).print()),
@@ -91,10 +92,20 @@ fn some_lift(tree: &[u16], random: &mut Random) -> (usize, usize) {
     (position, random.between(1, most.clamp(1, 99)))
 }
 
+/// A lift by one level from level 2 or 3.
+fn lift_near_root(tree: &[u16], random: &mut Random) -> (usize, usize) {
+    let levels = levels_of_nodes(tree);
+    let near_root: Vec<usize> = (0..tree.len()).filter(|&position| matches!(levels[position], 2 | 3)).collect();
+    (random.pick(&near_root), 1)
+}
+
+/// How a lift's position and levels are chosen.
+type Choice = fn(&[u16], &mut Random) -> (usize, usize);
+
 /// Adds lifts, each chosen by the tree that the ones before it leave; `tree` is what the sheet's own leave.
-fn add_lifts(sheet: &mut Sheet, mut tree: Vec<u16>, count: usize, random: &mut Random) {
+fn add_lifts(sheet: &mut Sheet, mut tree: Vec<u16>, count: usize, choice: Choice, random: &mut Random) {
     for _ in 0..count {
-        let (position, levels) = some_lift(&tree, random);
+        let (position, levels) = choice(&tree, random);
         sheet.lifts.push((position, levels));
         if let Ok(lifted) = lift(&tree, position, levels) {
             tree = lifted.tree;
@@ -106,7 +117,17 @@ fn lifted(random: &mut Random) -> Sheet {
     let mut sheet = plain(random);
     let count = random.between(1, 8);
     let tree = sheet.tree.clone();
-    add_lifts(&mut sheet, tree, count, random);
+    add_lifts(&mut sheet, tree, count, some_lift, random);
+    sheet
+}
+
+fn lifted_near_root(random: &mut Random) -> Sheet {
+    let count = random.between(1, 8);
+    let groups = some_groups(count, random);
+    let leaves = random.between(4, 16);
+    let tree = Shape::mixed().tree(leaves, &groups, random);
+    let mut sheet = unmarked(tree.clone());
+    add_lifts(&mut sheet, tree, 8, lift_near_root, random);
     sheet
 }
 
@@ -117,7 +138,7 @@ fn nested(random: &mut Random) -> Sheet {
     let tree = Shape::nested_differences().tree(leaves, &groups, random);
     let mut sheet = unmarked(tree.clone());
     let count = random.between(1, 6);
-    add_lifts(&mut sheet, tree, count, random);
+    add_lifts(&mut sheet, tree, count, some_lift, random);
     sheet
 }
 
@@ -236,7 +257,7 @@ fn gatherable(random: &mut Random) -> Sheet {
 fn grown(random: &mut Random) -> Sheet {
     let (mut sheet, tree) = grown_to_limit(random);
     let count = random.between(0, 3);
-    add_lifts(&mut sheet, tree, count, random);
+    add_lifts(&mut sheet, tree, count, some_lift, random);
     if random.one_in(3) {
         mark_some(&mut sheet, random);
     }

@@ -38,11 +38,15 @@ fn least_counts(sheets: usize) -> Vec<(String, usize)> {
         per_thousand(Trait::Gatherable, 100),
         per_thousand(Trait::NotGatherable, 50),
         per_thousand(Trait::LiftDone, 500),
-        per_thousand(Trait::LooksAboveLevels, 50),
         per_thousand(Trait::LiftedTo8191Nodes, 2),
     ]);
     for state in 1..=9 {
-        least.extend(['a', 'b', 'c', 'd'].map(|input| per_thousand(Trait::Step((state, Some(input))), 5)));
+        let level_2 = if state < 5 { Trait::StepAtLevel2(state) } else { Trait::StepRefused(2, state) };
+        least.push(per_thousand(level_2, 10));
+        for input in ['a', 'b', 'c', 'd'] {
+            least.push(per_thousand(Trait::StepAtLevel3(state, input), 2));
+            least.push(per_thousand(Trait::StepDeeper(state, input), 4));
+        }
     }
     least
 }

@@ -2,7 +2,8 @@
 
 use crate::coder::{encode, run, ADD, CUT, INSTRUCTION_NUMBERS, LOAD};
 use crate::gather::gather;
-use crate::lift::{lift, Step};
+use crate::lift::{lift_noting_steps, Step};
+use crate::refusal::NO_STEP;
 use crate::sheet::{read, Fault, Sheet};
 
 #[derive(Debug, Clone, Copy, PartialEq, Eq)]
@@ -20,6 +21,7 @@ pub struct Key {
 }
 
 /// What a sheet's lifts come to.
+#[derive(Default)]
 pub struct Lifts {
     /// The tree that they leave.
     pub tree: Vec<u16>,
@@ -27,18 +29,24 @@ pub struct Lifts {
     pub lines: Vec<(usize, usize, usize)>,
     /// The steps of those that were done.
     pub steps: Vec<Step>,
+    /// The steps that were refused with 15.
+    pub refused_steps: Vec<Step>,
 }
 
 pub fn lifts(sheet: &Sheet) -> Lifts {
-    let mut lifts = Lifts { tree: sheet.tree.clone(), lines: Vec::new(), steps: Vec::new() };
+    let mut lifts = Lifts { tree: sheet.tree.clone(), ..Lifts::default() };
     for &(position, levels) in &sheet.lifts {
-        lifts.lines.push(match lift(&lifts.tree, position, levels) {
+        let mut steps = Vec::new();
+        lifts.lines.push(match lift_noting_steps(&lifts.tree, position, levels, &mut steps) {
             Ok(lifted) => {
                 lifts.tree = lifted.tree;
-                lifts.steps.extend(lifted.steps);
+                lifts.steps.extend(steps);
                 (0, lifted.position, lifted.looks)
             }
-            Err(number) => (usize::from(number), position, 0),
+            Err(number) => {
+                lifts.refused_steps.extend(steps.pop().filter(|_| number == NO_STEP));
+                (usize::from(number), position, 0)
+            }
         });
     }
     lifts

@@ -21,9 +21,13 @@ pub enum Trait {
     NotGatherable,
     LiftDone,
     LiftRefused(usize),
-    LooksAboveLevels,
     LiftedTo8191Nodes,
-    Step(Step),
+    /// Steps of done lifts by their state and, where there is a D, the input.
+    StepAtLevel2(usize),
+    StepAtLevel3(usize, char),
+    StepDeeper(usize, char),
+    /// A step refused with 15, by its level and state.
+    StepRefused(usize, usize),
 }
 
 /// The tree that instructions compute in register 0, if each result is used once.
@@ -118,18 +122,30 @@ fn marks_trait(sheet: &Sheet, after_lifts: &[u16], expected: &Key) -> Trait {
     }
 }
 
-fn lift_traits(sheet: &Sheet, lifts: &Lifts) -> Vec<Trait> {
-    let mut traits: Vec<Trait> = lifts.steps.iter().map(|&step| Trait::Step(step)).collect();
-    for (&(_, levels), &(number, _, looks)) in sheet.lifts.iter().zip(&lifts.lines) {
-        traits.push(if number == 0 { Trait::LiftDone } else { Trait::LiftRefused(number) });
-        if looks > levels {
-            traits.push(Trait::LooksAboveLevels);
-        }
+fn step_trait(step: &Step) -> Trait {
+    match (step.level, step.input) {
+        (_, None) => Trait::StepAtLevel2(step.state),
+        (3, Some(input)) => Trait::StepAtLevel3(step.state, input),
+        (_, Some(input)) => Trait::StepDeeper(step.state, input),
     }
+}
+
+fn lift_traits(lifts: &Lifts) -> Vec<Trait> {
+    let mut traits: Vec<Trait> = lifts.steps.iter().map(step_trait).collect();
+    traits.extend(lifts.refused_steps.iter().map(|step| Trait::StepRefused(step.level, step.state)));
+    let line = |&(number, _, _): &_| if number == 0 { Trait::LiftDone } else { Trait::LiftRefused(number) };
+    traits.extend(lifts.lines.iter().map(line));
     if lifts.tree.len() == MAXIMUM_NODES {
         traits.push(Trait::LiftedTo8191Nodes);
     }
     traits
+}
+
+/// The looks of a done lift are its levels.
+fn looks(sheet: &Sheet, printed: &Key) -> Result<(), String> {
+    let mut lifts = sheet.lifts.iter().zip(&printed.lifts);
+    let looks_are_levels = lifts.all(|(&(_, levels), &(number, _, looks))| number != 0 || looks == levels);
+    ensure(looks_are_levels, "the looks of a done lift are not its levels")
 }
 
 /// The first line, from 1, in which the printed bytes leave the expected ones.
@@ -151,6 +167,7 @@ fn accepted(sheet: &Sheet, printed: &[u8], random: &mut Random) -> Result<Vec<Tr
         same_bytes(printed, &expected.print())?;
     }
     let parsed = parsed.ok_or("the bytes are not those of a key")?;
+    looks(sheet, &parsed)?;
     if marks == Trait::Gatherable {
         ensure(parsed.lifts == expected.lifts, "the LIFT lines are not 01's")?;
         free_code(sheet, &lifts.tree, &parsed)?;
@@ -161,7 +178,7 @@ fn accepted(sheet: &Sheet, printed: &[u8], random: &mut Random) -> Result<Vec<Tr
     if let Some(Held::At { first, count }) = parsed.held {
         closed_run(&parsed.code, first, count, &sheet.marks)?;
     }
-    let mut traits = lift_traits(sheet, &lifts);
+    let mut traits = lift_traits(&lifts);
     traits.push(marks);
     if sheet.tree.len() == SHEET_NODES {
         traits.push(Trait::MostNodes);

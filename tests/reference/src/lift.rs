@@ -1,4 +1,4 @@
-//! The lift (01, "The lift"), as a rewriting of the frames above A.
+//! The lift (01, "The lift", and 02, Ticket 2), as a rewriting of the frames above A.
 
 use crate::refusal::*;
 use crate::tree::{Node, Nodes, Operator, MAXIMUM_NODES};
@@ -64,8 +64,13 @@ fn state(parent: char, grandparent: char) -> usize {
     }
 }
 
-/// A step's state and, if there is a D, its input.
-pub type Step = (usize, Option<char>);
+/// A's level and state before a step and, if there is a D, the input.
+#[derive(Clone, Copy)]
+pub struct Step {
+    pub level: usize,
+    pub state: usize,
+    pub input: Option<char>,
+}
 
 /// A tree taken apart at A: the nodes above A from the root down, and how many nodes it has.
 struct Place {
@@ -73,7 +78,6 @@ struct Place {
     part: usize,
     frames: Vec<Frame>,
     count: usize,
-    steps: Vec<Step>,
 }
 
 impl Place {
@@ -88,28 +92,28 @@ impl Place {
             frames.push(Frame { operator, side, sibling });
             above = below;
         }
-        Place { count: nodes.count(), nodes, part: position, frames, steps: Vec::new() }
+        Place { count: nodes.count(), nodes, part: position, frames }
     }
 
-    /// One step of the part below frame `parent`; its looks, or `None` for want of a grandparent or of D.
-    fn step(&mut self, parent: usize) -> Option<usize> {
-        let grandparent = parent.checked_sub(1)?;
-        let (b, c) = (self.frames[parent].sibling, self.frames[grandparent].sibling);
-        let state = state(self.frames[parent].input(), self.frames[grandparent].input());
-        let above = grandparent.checked_sub(1);
-        self.steps.push((state, above.map(|above| self.frames[above].input())));
-        if let Some(frame) = self.step_within(state, b, c) {
-            self.replace(grandparent, parent, &[frame]);
-            return Some(1);
+    /// The next step of A, which is at level 2 or deeper.
+    fn next_step(&self) -> Step {
+        let level = self.frames.len();
+        let input = |nodes_up: usize| self.frames[level - nodes_up].input();
+        Step { level, state: state(input(1), input(2)), input: (level > 2).then(|| input(3)) }
+    }
+
+    /// Makes this step, A's next; `None` for want of D.
+    fn make(&mut self, step: Step) -> Option<()> {
+        let grandparent = step.level - 2;
+        let (b, c) = (self.frames[grandparent + 1].sibling, self.frames[grandparent].sibling);
+        if let Some(frame) = self.step_within(step.state, b, c) {
+            self.replace(grandparent, &[frame]);
+        } else {
+            let above = grandparent.checked_sub(1)?;
+            let frames = self.step_with(step.state, b, c, self.frames[above]);
+            self.replace(above, &frames);
         }
-        let above = above?;
-        match self.step_with(state, b, c, self.frames[above]) {
-            Some(frames) => {
-                self.replace(above, parent, &frames);
-                Some(1)
-            }
-            None => Some(1 + self.step(grandparent)?),
-        }
+        Some(())
     }
 
     /// States 1 to 4: the one frame that takes the place of two.
@@ -123,27 +127,39 @@ impl Place {
         }
     }
 
-    /// States 5 to 9: the two frames that take the place of three; `None` if state 9 passes the step on.
+    /// States 5 to 9: the two frames that take the place of three.
     /// In states 5 to 8, T is first the union of A's frame and a rest: then the input decides.
-    fn step_with(&mut self, state: usize, b: usize, c: usize, input: Frame) -> Option<[Frame; 2]> {
+    fn step_with(&mut self, state: usize, b: usize, c: usize, input: Frame) -> [Frame; 2] {
         let d = input.sibling;
         let (own, rest) = match state {
             5 => (part_minus(c), self.nodes.difference(b, c)),
             6 => (part_minus(b), c),
             7 => (minus_part(b), c),
-            8 => {
-                let outside = self.nodes.difference(c, b);
-                (minus_part(c), self.nodes.difference(c, outside))
-            }
-            _ if input.input() == 'b' => return Some([minus_part(self.nodes.difference(c, d)), minus_part(b)]),
-            _ => return None,
+            8 => (minus_part(c), self.in_both(c, b)),
+            _ => return self.step_in_state_9(b, c, input),
         };
-        Some(match input.input() {
+        match input.input() {
             'a' => [union_part(self.nodes.union(d, rest)), own],
             'b' => [part_union(self.nodes.difference(rest, d)), self.without(own, d)],
             'c' => [part_union(self.nodes.union(d, rest)), own],
             _ => [minus_part(self.nodes.difference(d, rest)), own],
-        })
+        }
+    }
+
+    /// State 9, where T is C less A's frame (02, Ticket 2; 01 for input b).
+    fn step_in_state_9(&mut self, b: usize, c: usize, input: Frame) -> [Frame; 2] {
+        let d = input.sibling;
+        match input.input() {
+            'a' | 'c' => [minus_part(self.nodes.union(c, d)), minus_part(self.nodes.difference(b, d))],
+            'b' => [minus_part(self.nodes.difference(c, d)), minus_part(b)],
+            _ => [union_part(self.nodes.difference(d, c)), minus_part(self.in_both(d, b))],
+        }
+    }
+
+    /// x−(x−y)
+    fn in_both(&mut self, x: usize, y: usize) -> usize {
+        let outside = self.nodes.difference(x, y);
+        self.nodes.difference(x, outside)
     }
 
     /// A's own frame when D is taken from its whole: (A−x)−D is A−(x U D), (x−A)−D is (x−D)−A.
@@ -154,10 +170,12 @@ impl Place {
         }
     }
 
-    fn replace(&mut self, first: usize, last: usize, frames: &[Frame]) {
-        self.count -= self.count_of(&self.frames[first..=last]);
+    /// Puts frames in the place of those from `first` down to A.
+    fn replace(&mut self, first: usize, frames: &[Frame]) {
+        self.count -= self.count_of(&self.frames[first..]);
         self.count += self.count_of(frames);
-        self.frames.splice(first..=last, frames.iter().copied());
+        self.frames.truncate(first);
+        self.frames.extend(frames);
     }
 
     fn count_of(&self, frames: &[Frame]) -> usize {
@@ -191,12 +209,20 @@ pub struct Lifted {
     pub tree: Vec<u16>,
     pub position: usize,
     pub looks: usize,
-    /// Every step made or passed on, in order.
-    pub steps: Vec<Step>,
 }
 
 /// The lifted tree, or 12 to 16.
 pub fn lift(list: &[u16], position: usize, levels: usize) -> Result<Lifted, Refusal> {
+    lift_noting_steps(list, position, levels, &mut Vec::new())
+}
+
+/// The same, noting each step that is made or refused.
+pub fn lift_noting_steps(
+    list: &[u16],
+    position: usize,
+    levels: usize,
+    steps: &mut Vec<Step>,
+) -> Result<Lifted, Refusal> {
     let nodes = Nodes::parse(list).ok_or(NOT_A_TREE)?;
     if position >= list.len() {
         return Err(NO_SUCH_POSITION);
@@ -207,10 +233,13 @@ pub fn lift(list: &[u16], position: usize, levels: usize) -> Result<Lifted, Refu
     }
     let mut looks = 0;
     for _ in 0..levels {
-        looks += place.step(place.frames.len() - 1).ok_or(NO_STEP)?;
+        let step = place.next_step();
+        steps.push(step);
+        place.make(step).ok_or(NO_STEP)?;
+        looks += 1;
         if place.count > MAXIMUM_NODES {
             return Err(RESULT_TOO_LONG);
         }
     }
-    Ok(Lifted { position: place.position(), looks, tree: place.list(), steps: place.steps })
+    Ok(Lifted { position: place.position(), looks, tree: place.list() })
 }

@@ -1,6 +1,6 @@
--- `run` meets its contract, by induction over the levels: RunLaws has one turn, and that the table's next state is the node's.
+-- `run` meets its contract, by induction over the levels: RunLaws has one turn.
 use borrow.Author.Needs.{needs}
-use mathlib.Core.Path.{_≡_, sym, subst, _∙_}
+use mathlib.Core.Path.{_≡_, sym, subst}
 use mathlib.Core.List.{List}
 use native.Mathlib.Omega.{arith}
 use lib.ListN.{length, take, length-take}
@@ -9,19 +9,17 @@ use Rattle.tree.specs.Tree.{Tree}
 use Rattle.tree.specs.Context.{Frame}
 use Rattle.tree.proofs.TreeLaws.{size-positive}
 use Rattle.step.specs.InnerStanding.{Standing}
-use Rattle.step.specs.InnerSteps.{StepIs}
+use Rattle.step.specs.InnerSteps.{StepIs, StepDone}
 use Rattle.lift.specs.Lift.{Result}
 use Rattle.lift.specs.Answer.{Lifts}
 use Rattle.step.specs.declared.Stepped.{Stepped}
-use Rattle.step.specs.declared.Stepped.the-variants as stepped
-use Rattle.lift.proofs.RunLaws.{state-bounds, stuck-is, long-is, next-stands, next-small, next-looks, next-input, goes-on, stops, grows-too-long, ends}
+use Rattle.lift.proofs.RunLaws.{goes-on, stops, grows-too-long, ends}
 use Prim.Native.Nat.{ℕ, _<_}
 use borrow.Fn.Kinds.{In}
 use borrow.Fn.PlainCycle.{Measures, is, falls, and}
 use Rattle.lift.proofs.run.Reads as run
 use Rattle.lift.proofs.run.Kinds as run-kinds
 use Rattle.lift.proofs.+run.Lts-run as run-lts
-use Rattle.moves.proofs.next_state.Reads as next-state-reads
 use Rattle.step.proofs.step.Reads as step-reads
 use Rattle.tree.proofs.copy.Reads as copy-reads
 use Rattle.lift.proofs.+run.{statement}
@@ -38,7 +36,7 @@ run-below t = and 3 run-kinds.ps (falls 3 run-kinds.ps _<_ μ-run t) run.Pre
 
 -- what the calls ask and give
 abbrev calls : ℕ → run-lts.Claims
-calls t = (copy-reads.Asked, copy-reads.Learnt, step-reads.Asked, step-reads.Learnt, next-state-reads.Asked, next-state-reads.Learnt, run-below t, run.Post)
+calls t = (copy-reads.Asked, copy-reads.Learnt, step-reads.Asked, step-reads.Learnt, run-below t, run.Post)
 
 -- the list's length
 whole : (t : ℕ) (g : run-lts.Start (calls t) (run-at t) run.Post) → length (take (g .args .nodes) (g .args .x .now)) ≡ g .args .nodes
@@ -47,13 +45,11 @@ whole t g = length-take-le (g .args .nodes) (g .args .x .now) (omega (arith, g .
 -- what the step answered, where it was done
 step-done : (t : ℕ) (c : run-lts.After-known-told (calls t) (run-at t) run.Post) (a : Tree) (k : List Frame)
     → let g = c .before .before .before .before .before .before .before .before .before .before .before .before .args in
-    let v = c .before .new-nodes .given .0 in
-    Standing (take (g .nodes) (g .x .now)) (g .node) a k
-    → StepIs a k (g .y .now) (stepped.Done (v .0) (v .1 .0) (v .1 .1 .0) (v .1 .1 .1 .0)) (c .before .before .before .before .before .step .last .1 .1 .0)
+    let v = c .before .more .given .0 in
+    Standing (take (g .nodes) (g .x .now)) (g .node) a k → StepDone a k (v .0) (v .1 .0) (c .before .before .before .before .before .step .last .1 .1 .0)
 step-done t c a k S =
-    let g = c .before .before .before .before .before .before .before .before .before .before .before .before .args in
     let r = c .before .before .before .before .before .step in
-    subst (λ (x : Stepped). StepIs a k (g .y .now) x (r .last .1 .1 .0)) (c .before .new-nodes .given .1) (r .ensures a k S)
+    subst (λ (x : Stepped). StepIs a k x (r .last .1 .1 .0)) (c .before .more .given .1) (r .ensures a k S)
 
 run-slice-reshare-prefix-copy : (t : ℕ) → run-lts.Need-slice-reshare-prefix-copy (calls t) (run-at t) run.Post
 run-slice-reshare-prefix-copy t c = search needs
@@ -64,8 +60,8 @@ run-slice-aggregate-copy t c = let g = c .before .before .before .before .before
 run-copy-requires : (t : ℕ) → run-lts.Need-copy-requires (calls t) (run-at t) run.Post
 run-copy-requires t c κs = let g = c .before .before .before .before .before .before in rw length-take (omega (arith, g .pre .1 .1))
 
-run-sub-t14 : (t : ℕ) → run-lts.Need-sub-t14 (calls t) (run-at t) run.Post
-run-sub-t14 t c = let L = c .before .before .before .before .before .before .before .before .before .before .pre .1 .0 in omega (arith, L .2 .part .ends, size-positive (L .0))
+run-sub-t11 : (t : ℕ) → run-lts.Need-sub-t11 (calls t) (run-at t) run.Post
+run-sub-t11 t c = let L = c .before .before .before .before .before .before .before .before .before .before .pre .1 .0 in omega (arith, L .2 .part .ends, size-positive (L .0))
 
 run-same-length : (t : ℕ) → run-lts.Need-same-length (calls t) (run-at t) run.Post
 run-same-length t c = search needs
@@ -95,49 +91,24 @@ run-enum-told t c = search needs
 run-enum-told-2 : (t : ℕ) → run-lts.Need-enum-told-2 (calls t) (run-at t) run.Post
 run-enum-told-2 t c = search needs
 
-run-enum-known-new-nodes : (t : ℕ) → run-lts.Need-enum-known-new-nodes (calls t) (run-at t) run.Post
-run-enum-known-new-nodes t c = search needs
-
-run-sub-t25 : (t : ℕ) → run-lts.Need-sub-t25 (calls t) (run-at t) run.Post
-run-sub-t25 t c = let L = c .before .before .before .before .before .before .before .before .before .before .before .before .before .pre .1 .0 in omega (arith, L .2 .part .ends)
-
-run-add-t26 : (t : ℕ) → run-lts.Need-add-t26 (calls t) (run-at t) run.Post
-run-add-t26 t c = let g = c .before .before .before .before .before .before .before .before .before .before .before .before .before in
-    let L = g .pre .1 .0 in
-    omega (arith, next-small (L .2) (g .pre .1 .1 .1 .0 .0) (step-done t (c .before) (L .0) (L .1) (L .2)))
-
-run-sub-t27 : (t : ℕ) → run-lts.Need-sub-t27 (calls t) (run-at t) run.Post
-run-sub-t27 t c = omega (arith, c .before .before .before .before .before .before .before .before .before .before .before .before .before .before .pre .1 .1 .1 .1)
-
-run-next-state-requires : (t : ℕ) → run-lts.Need-next-state-requires (calls t) (run-at t) run.Post
-run-next-state-requires t c κs = let g = c .before .before .before .before .before .before .before .before .before .before .before .before .before .before in
-    let L = g .pre .1 .0 in
-    let b = state-bounds (L .1) (g .args .node .state) (L .2 .state) (omega (arith, L .2 .level, g .pre .1 .1 .1 .1 .0, c .before .before .before .before .before .before .before .before .before .before .if1 .left)) in
-    (b .0, b .1, next-input (L .2) (g .pre .1 .1 .1 .0 .0) (step-done t (c .before .before) (L .0) (L .1) (L .2)))
+run-enum-known-more : (t : ℕ) → run-lts.Need-enum-known-more (calls t) (run-at t) run.Post
+run-enum-known-more t c = search needs
 
 run-sub-run : (t : ℕ) → run-lts.Need-sub-run (calls t) (run-at t) run.Post
-run-sub-run t c = omega (arith, c .before .before .before .before .before .before .before .before .before .before .before .before .before .if1 .left)
+run-sub-run t c = omega (arith, c .before .before .before .before .before .before .before .before .before .before .if1 .left)
 
 run-add-run : (t : ℕ) → run-lts.Need-add-run (calls t) (run-at t) run.Post
-run-add-run t c = let g = c .before .before .before .before .before .before .before .before .before .before .before .before .before .before .before .before .before in
-    let L = g .pre .1 .0 in
-    omega (arith, g .pre .1 .1 .1 .1, next-looks (L .2) (g .pre .1 .1 .1 .0 .0) (step-done t (c .before .before .before .before .before) (L .0) (L .1) (L .2)) (omega (arith, whole t g, g .pre .1 .1 .0)))
+run-add-run t c = let g = c .before .before .before .before .before .before .before .before .before .before .before .before .before .before in omega (arith, g .pre .1 .1 .1 .1, c .before .before .before .before .before .before .before .before .before .before .if1 .left)
 
 run-run-requires : (t : ℕ) → run-lts.Need-run-requires (calls t) (run-at t) run.Post
-run-run-requires t c κs = let g = c .before .before .before .before .before .before .before .before .before .before .before .before .before .before .before .before .before .before in
+run-run-requires t c κs =
+    let g = c .before .before .before .before .before .before .before .before .before .before .before .before .before .before .before in
     let L = g .pre .1 .0 in
-    let y = g .pre .1 .1 .1 .0 .0 in
-    let Q = step-done t (c .before .before .before .before .before .before) (L .0) (L .1) (L .2) in
-    let m = next-looks (L .2) y Q (omega (arith, whole t g, g .pre .1 .1 .0)) in
-    let n : g .args .levels ≡ 0 → ⊥ = c .before .before .before .before .before .before .before .before .before .before .before .before .before .before .if1 .left in (
+    let D = step-done t (c .before .before .before) (L .0) (L .1) (L .2) in
+    let n : g .args .levels ≡ 0 → ⊥ = c .before .before .before .before .before .before .before .before .before .before .before .if1 .left in
+    let y = g .pre .1 .1 .1 .0 .0 in (
       omega (arith, g .pre .0, n),
-      (
-        (_, _, next-stands (L .2) y Q (c .before .before .before .next-state .result) (c .before .before .before .next-state .ensures)),
-        (
-          (next-small (L .2) y Q .1, omega (arith, c .before .before .before .before .before .before .before .before .before .before .before .step .kept .1 .1 .0, y)),
-          (omega (arith, g .pre .1 .1), (omega (arith, n, g .pre .1 .1 .1 .1 .0), omega (arith, n, m, g .pre .1 .1 .1 .1 .1))),
-        ),
-      ),
+      ((_, _, D .stands), ((D .short, omega (arith, c .before .before .before .before .before .before .before .before .step .kept .1 .1 .0, y)), (omega (arith, g .pre .1 .1), omega (arith, n, g .pre .1 .1 .1 .1)))),
     )
 
 run-same-length-3 : (t : ℕ) → run-lts.Need-same-length-3 (calls t) (run-at t) run.Post
@@ -150,7 +121,8 @@ run-returns-2 : (t : ℕ) → run-lts.Need-returns-2 (calls t) (run-at t) run.Po
 run-returns-2 t c = record {
   lifts = λ a k S.
       let g = c .before .before .before .before .before .before .before .before .before .before .before .args in
-      stops a k (g .levels) (g .looks) (c .before .before .before .before .before .before .before .if1 .left) (g .out .now) (stuck-is a _ _ (sym (c .enum-told .given .1) ∙ c .before .before .before .before .step .ensures a k S .answers));
+      let r = c .before .before .before .before .step in
+      stops a k (g .levels) (g .looks) (c .before .before .before .before .before .before .before .if1 .left) (g .out .now) (subst (λ (x : Stepped). StepIs a k x (r .last .1 .1 .0)) (c .enum-told .given .1) (r .ensures a k S));
 }
 
 run-same-length-5 : (t : ℕ) → run-lts.Need-same-length-5 (calls t) (run-at t) run.Post
@@ -163,7 +135,8 @@ run-returns-3 : (t : ℕ) → run-lts.Need-returns-3 (calls t) (run-at t) run.Po
 run-returns-3 t c = record {
   lifts = λ a k S.
       let g = c .before .before .before .before .before .before .before .before .before .before .before .args in
-      grows-too-long a k (g .levels) (g .looks) (c .before .before .before .before .before .before .before .if1 .left) (g .out .now) (long-is a _ _ (sym (c .enum-told2 .given .1) ∙ c .before .before .before .before .step .ensures a k S .answers));
+      let r = c .before .before .before .before .step in
+      grows-too-long a k (g .levels) (g .looks) (c .before .before .before .before .before .before .before .if1 .left) (g .out .now) (subst (λ (x : Stepped). StepIs a k x (r .last .1 .1 .0)) (c .enum-told2 .given .1) (r .ensures a k S));
 }
 
 run-same-length-7 : (t : ℕ) → run-lts.Need-same-length-7 (calls t) (run-at t) run.Post
@@ -178,12 +151,11 @@ run-same-length-9 t c = search needs
 run-returns-4 : (t : ℕ) → run-lts.Need-returns-4 (calls t) (run-at t) run.Post
 run-returns-4 t c = record {
   lifts = λ a k S.
-      let g = c .before .before .before .before .before .before .before .before .before .before .before .before .before .before .before .before .before .before .before .before .before .before .before .before .before in
-      let y = g .pre .1 .1 .1 .0 .0 in
-      let Q = step-done t (c .before .before .before .before .before .before .before .before .before .before .before .before .before) a k S in
+      let g = c .before .before .before .before .before .before .before .before .before .before .before .before .before .before .before .before .before .before .before .before .before .before .args in
+      let D = step-done t (c .before .before .before .before .before .before .before .before .before .before) a k S in
       let r = c .before .before .before .before .before .before .run in
-      subst (λ (x : Result). Lifts x (g .args .out .now) (r .result) (r .last .1 .1 .1 .1 .1 .1 .0)) (sym (goes-on S y Q (g .args .levels) (g .args .looks) (c .before .before .before .before .before .before .before .before .before .before .before .before .before .before .before .before .before .before .before .before .before .if1 .left)))
-      (r .ensures .lifts a _ (next-stands S y Q (c .before .before .before .before .before .before .before .before .before .before .next-state .result) (c .before .before .before .before .before .before .before .before .before .before .next-state .ensures)));
+      subst (λ (x : Result). Lifts x (g .out .now) (r .result) (r .last .1 .1 .1 .1 .1 .1 .0))
+      (sym (goes-on a k (g .levels) (g .looks) (c .before .before .before .before .before .before .before .before .before .before .before .before .before .before .before .before .before .before .if1 .left) D)) (r .ensures .lifts a (D .e) (D .stands));
 }
 
 pub +run-spec : {M : Type 1} → statement M
@@ -193,7 +165,7 @@ pub +run-spec : {M : Type 1} → statement M
     (run-slice-reshare-prefix-copy t)
     (run-slice-aggregate-copy t)
     (run-copy-requires t)
-    (run-sub-t14 t)
+    (run-sub-t11 t)
     (run-same-length t)
     (run-same-length-2 t)
     (run-returns t)
@@ -202,11 +174,7 @@ pub +run-spec : {M : Type 1} → statement M
     (run-step-requires t)
     (run-enum-told t)
     (run-enum-told-2 t)
-    (run-enum-known-new-nodes t)
-    (run-sub-t25 t)
-    (run-add-t26 t)
-    (run-sub-t27 t)
-    (run-next-state-requires t)
+    (run-enum-known-more t)
     (run-sub-run t)
     (run-add-run t)
     (run-run-requires t)

@@ -1,7 +1,9 @@
 -- `lift` meets its contract: each test is the definition's, in order.
 use mathlib.Core.Path.{sym, ap, _∙_}
 use native.Mathlib.Omega.{arith}
+use Prim.Native.Nat.{_≤_}
 use lib.ListN.{length}
+use Rattle.tree.specs.Tree.{mostNodes}
 use Rattle.tree.proofs.TreeLaws.{postfix-length}
 use Rattle.tree.proofs.ParseLaws.{IsTree, the-tree}
 use Rattle.lift.proofs.WholeLaws.{says-11, says-12, says-13, says-14, runs-on, the-part, levels-below, refuses, lifts-same}
@@ -54,7 +56,8 @@ lift-part-requires c κs =
     let g = before .before .before .before .before .before .args in
     let W = given before in
     let P = the-part (length (g .out .now)) (g .tree .now) (g .position) (g .levels) (if1 .left) W (if3 .left) in
-    ((_, _, _, P, c .before .before .level-of .ensures .0 _ _ _ P), ((omega (arith, ap length (W .list), postfix-length (W .tree), W .most), if1 .left), levels-below (g .levels) (c .before .before .level-of .result) (c .before .if4 .left)))
+    let most : length (g .tree .now) ≤ mostNodes = omega (arith, ap length (W .list), postfix-length (W .tree), W .most) in
+    ((_, _, _, P), ((most, if1 .left), omega (arith, most, c .before .before .level-of .ensures .1, levels-below (g .levels) (c .before .before .level-of .result) (c .before .if4 .left))))
 
 same-length : tie.Need-same-length
 same-length c = search needs

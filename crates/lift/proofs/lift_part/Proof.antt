@@ -1,5 +1,4 @@
 -- `lift_part` meets its contract: the first buffer begins with the list, so the node stands in it.
-use mathlib.Core.Path.{_∙_}
 use mathlib.Core.List.{List}
 use Prim.Native.Nat.{ℕ}
 use native.Mathlib.Omega.{arith}
@@ -9,7 +8,7 @@ use Rattle.tree.specs.Context.{Frame}
 use Rattle.tree.specs.InnerPart.{Part}
 use Rattle.tree.proofs.PartLaws.{part-length}
 use Rattle.step.specs.InnerStanding.{Standing}
-use Rattle.lift.proofs.WholeLaws.{stands-first, same-level, level-within}
+use Rattle.lift.proofs.WholeLaws.{stands-first}
 use borrow.Author.Needs.{needs}
 use Rattle.lift.proofs.lift_part.Statement.{statement}
 use Rattle.lift.proofs.lift_part.Tie as tie
@@ -22,11 +21,11 @@ from-start c from a k P = rw (c .part-start .ensures from a k P) P
 -- the node in the first buffer
 stands : (c : tie.After-copy) (from : ℕ) (a : Tree) (k : List Frame) → let g = c .before .before .before .before .before .before .args in
     Part (g .list .now) from (g .to) a k
-    → Standing (take (length (g .list .now)) (c .copy .last .1 .0)) (record { from = c .before .before .before .part-start .result; to = g .to; level = g .level; state = c .before .before .first-state .result }) a k
+    → Standing (take (length (g .list .now)) (c .copy .last .1 .0)) (record { from = c .before .before .before .part-start .result; to = g .to; state = c .before .before .first-state .result }) a k
 stands c from a k P =
     let g = c .before .before .before .before .before .before in
     let Q = from-start (c .before .before .before) from a k P in
-    stands-first (c .copy .ensures) (g .pre .1 .0 .0) Q (g .pre .0 .4 ∙ same-level (g .pre .0 .3) P) (c .before .before .first-state .ensures a k Q)
+    stands-first (c .copy .ensures) (g .pre .1 .0 .0) Q (c .before .before .first-state .ensures a k Q)
 
 part-start-requires : tie.Need-part-start-requires
 part-start-requires c κs = omega (arith, part-length (c .before .before .pre .0 .3))
@@ -53,7 +52,7 @@ run-requires c κs =
     let before = c .before .before .before .before in
     let g = before .before .before .before .before .before .before in
     let L = g .pre .0 in
-    ((_, _, stands before (L .0) (L .1) (L .2) (L .3)), ((g .pre .1 .0 .0, search needs), ((omega arith, g .pre .1 .0 .1), (omega (arith, g .pre .1 .1), omega (arith, g .pre .1 .1, L .4, level-within (L .3), g .pre .1 .0 .0)))))
+    ((_, _, stands before (L .0) (L .1) (L .2) (L .3)), ((g .pre .1 .0 .0, search needs), ((omega arith, g .pre .1 .0 .1), omega (arith, g .pre .1 .1))))
 
 same-length : tie.Need-same-length
 same-length c = search needs

@@ -6,11 +6,10 @@ use native.Mathlib.Omega.{arith}
 use lib.ListN.{length}
 use lib.Seq.{length-take-le}
 use Rattle.moves.specs.InnerWords.{spell}
-use Rattle.moves.proofs.ReplaceLaws.{replaced-length}
+use Rattle.moves.proofs.ReplaceLaws.{replaced-length, written}
 use borrow.Author.Needs.{needs}
 use Rattle.moves.proofs.replace.Statement.{statement}
 use Rattle.moves.proofs.replace.Tie as tie
-use Rattle.moves.proofs.ReplaceLaws.{is-too-long, is-replaced}
 
 word-width-requires : tie.Need-word-width-requires
 word-width-requires c κs = search needs
@@ -27,13 +26,12 @@ add-nodes-2 c = search needs
 returns : tie.Need-returns
 returns c = let g = c .before .before .before .before .before in
     let v = g .args in
-    is-too-long (v .list .now) (v .from) (v .to) (v .word .now) (v .whole) (v .end) (v .out .now)
-    (omega (
+    omega (
       arith,
       c .if1 .taken,
       c .before .word-width .ensures .0 (v .list .now) (g .pre .0),
       replaced-length (v .list .now) (v .from) (v .to) (v .word .now) (v .whole) (v .end) (g .pre .1 .0 .0) (g .pre .1 .0 .1),
-    ))
+    )
 
 place-of-a-requires : tie.Need-place-of-a-requires
 place-of-a-requires c κs = search needs
@@ -80,11 +78,11 @@ returns-2 c =
     let word-width2 = c .before .before .before .before .word-width2 in
     let g = c .before .before .before .before .before .before .before .before .before .before .before .before in
     let v = g .args in
-    is-replaced (v .list .now) (v .from) (v .to) (v .word .now) (v .whole) (v .end) _ _ (c .before .before .write-replaced .result) (v .out .now) _
-    (omega (arith, word-width .ensures .0 (v .list .now) (g .pre .0), replaced-length (v .list .now) (v .from) (v .to) (v .word .now) (v .whole) (v .end) (g .pre .1 .0 .0) (g .pre .1 .0 .1)))
-    (if1 .left) (g .pre .1 .1 .0 .1)
-    (ap (λ (n : ℕ). v .whole + n) (word-width2 .ensures .0 (v .list .now) (g .pre .0) ∙ ap (λ (w : List ℕ). length (spell (v .list .now) (v .from) (v .to) w)) (place-of-a .ensures .1)))
-    (c .before .before .write-replaced .ensures)
+    let long = replaced-length (v .list .now) (v .from) (v .to) (v .word .now) (v .whole) (v .end) (g .pre .1 .0 .0) (g .pre .1 .0 .1) in
+    let same = word-width .ensures .0 (v .list .now) (g .pre .0) in (
+      ap (λ (n : ℕ). v .whole + n) (word-width2 .ensures .0 (v .list .now) (g .pre .0) ∙ ap (λ (w : List ℕ). length (spell (v .list .now) (v .from) (v .to) w)) (place-of-a .ensures .1)),
+      written (c .before .before .write-replaced .ensures) _ (omega (arith, same, long)) (if1 .left) (g .pre .1 .1 .0 .1),
+    )
 
 pub replace-spec : {M : Type 1} → statement M
 replace-spec =

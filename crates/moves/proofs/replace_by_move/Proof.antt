@@ -24,7 +24,7 @@ returns c =
     let move-word = c .before .before .before .before .before .move-word in
     let g = c .before .before .before .before .before .before .before .before .args in
     record {
-      by-entry = λ x i e f. subst (λ (w : List ℕ). Replaced (g .list .now) (g .from) (g .to) w (g .whole) (g .end) (g .out .now) (c .before .before .replace .result) (c .before .before .replace .last .1 .1 .1 .1 .1 .1 .0)) (move-word .ensures x i e f) (c .before .before .replace .ensures);
+      by-entry = λ x i e f. subst (λ (w : List ℕ). Replaced (g .list .now) (g .from) (g .to) w (g .whole) (g .end) (c .before .before .replace .result) (c .before .before .replace .last .1 .1 .1 .1 .1 .1 .0)) (move-word .ensures x i e f) (c .before .before .replace .ensures);
     }
 
 pub replace-by-move-spec : {M : Type 1} → statement M

@@ -7,8 +7,7 @@ use Rattle.tree.specs.Context.{Frame, frame, sided}
 use Rattle.tree.specs.InnerPart.{Part}
 use Rattle.moves.proofs.TableLaws.{kind-small}
 use Rattle.step.specs.InnerStanding.{StateIs}
-use Rattle.step.proofs.GrownLaws.{Grown, grow}
-use Rattle.step.proofs.PlanLaws.{is-nil}
+use Rattle.step.specs.InnerSteps.{Under, FrameIs}
 use borrow.Author.Needs.{needs}
 use Rattle.step.proofs.first_state.Statement.{statement}
 use Rattle.step.proofs.first_state.Tie as tie
@@ -18,25 +17,24 @@ abbrev First : tie.After-known-told → Tree → List Frame → Type 0
 First c a k =
     let g = c .before .before .before .before .before .args in
     let v = c .before .own .given .0 in
-    Grown (g .list .now) (g .part .from) (g .part .to) a k (v .0) (v .1 .0) (v .1 .1 .0)
+    Under (g .list .now) a k (v .0) (v .1 .0) (v .1 .1 .0)
 
 first : (c : tie.After-known-told) (a : Tree) (k : List Frame) → let g = c .before .before .before .before .before .args in
     Part (g .list .now) (g .part .from) (g .part .to) a k → First c a k
 first c a k P =
     let frame-above = c .before .before .before .frame-above in
-    grow _ _ _ a k _ _ _ P (sym (c .before .own .given .1) ∙ frame-above .ensures a k P)
+    subst (FrameIs _ a k) (c .before .own .given .1) (frame-above .ensures a k P)
 
 abbrev Second : (c : tie.After-known-told2) (a : Tree) (k : List Frame) → First (c .before .before .before .before) a k → Type 0
 Second c a k G =
     let o = c .before .before .before .before in
-    let p = o .before .own .given .0 .1 .1 .0 in
     let v = c .before .parent-kind .given .0 in
-    Grown (o .before .before .before .before .before .args .list .now) (p .from) (p .to) (sided (G .side) (node (G .operator)) a (G .sibling)) (G .rest) (v .0) (v .1 .0) (v .1 .1 .0)
+    Under (o .before .before .before .before .before .args .list .now) (sided (G .side) (node (G .operator)) a (G .sibling)) (G .rest) (v .0) (v .1 .0) (v .1 .1 .0)
 
 second : (c : tie.After-known-told2) (a : Tree) (k : List Frame) (G : First (c .before .before .before .before) a k) → Second c a k G
 second c a k G =
     let frame-above2 = c .before .before .before .frame-above2 in
-    grow _ _ _ _ _ _ _ _ (G .parent) (sym (c .before .parent-kind .given .1) ∙ frame-above2 .ensures _ _ (G .parent))
+    subst (FrameIs _ _ (G .rest)) (c .before .parent-kind .given .1) (frame-above2 .ensures _ (G .rest) (G .parent))
 
 frame-above-requires : tie.Need-frame-above-requires
 frame-above-requires c κs = search needs
@@ -48,7 +46,7 @@ enum-told : tie.Need-enum-told
 enum-told c = search needs
 
 returns : tie.Need-returns
-returns c = λ a k P. subst (λ (x : List Frame). StateIs x 0) (sym (is-nil _ _ k (sym (c .enum-told .given .1) ∙ c .before .before .frame-above .ensures a k P))) tt
+returns c = λ a k P. subst (λ (x : List Frame). StateIs x 0) (sym (subst (FrameIs _ a k) (c .enum-told .given .1) (c .before .before .frame-above .ensures a k P))) tt
 
 frame-above-requires-2 : tie.Need-frame-above-requires-2
 frame-above-requires-2 c κs = let p = c .before .before .before .before .before .pre in (_, _, first c (p .0) (p .1) (p .2) .parent)
@@ -62,7 +60,7 @@ enum-told-2 c = search needs
 returns-2 : tie.Need-returns-2
 returns-2 c = λ a k P.
     let G = first (c .before .before .before) a k P in
-    subst (λ (x : List Frame). StateIs x 0) (sym (G .is ∙ ap (λ (r : List Frame). frame (G .side) (G .operator) (G .sibling) ∷ r) (is-nil _ _ (G .rest) (sym (c .enum-told2 .given .1) ∙ c .before .before .frame-above2 .ensures _ _ (G .parent))))) tt
+    subst (λ (x : List Frame). StateIs x 0) (sym (G .is ∙ ap (λ (r : List Frame). frame (G .side) (G .operator) (G .sibling) ∷ r) (subst (FrameIs _ _ (G .rest)) (c .enum-told2 .given .1) (c .before .before .frame-above2 .ensures _ (G .rest) (G .parent))))) tt
 
 state-of-requires : tie.Need-state-of-requires
 state-of-requires c κs =

@@ -1,6 +1,6 @@
--- `frame_above` meets its contract: it is `above_part` with the stretches put together.
-use mathlib.Core.Path.{sym, ap, _∙_}
-use Rattle.step.specs.InnerSteps.{framedAs}
+-- `frame_above` meets its contract: it is `above_part` with the stretches put together, and UnderLaws says what that tells of the list.
+use mathlib.Core.Path.{sym, _∙_}
+use Rattle.step.proofs.UnderLaws.{is-root, is-under}
 use borrow.Author.Needs.{needs}
 use Rattle.step.proofs.frame_above.Statement.{statement}
 use Rattle.step.proofs.frame_above.Tie as tie
@@ -15,12 +15,12 @@ enum-known-kind : tie.Need-enum-known-kind
 enum-known-kind c = search needs
 
 returns : tie.Need-returns
-returns c = λ a k P. ap framedAs (sym (c .enum-told .given .1) ∙ c .before .before .above-part .ensures a k P)
+returns c = λ a k P. is-root _ _ k (sym (c .enum-told .given .1) ∙ c .before .before .above-part .ensures a k P)
 
 returns-2 : tie.Need-returns-2
 returns-2 c =
     let above-part = c .before .before .before .above-part in
-    λ a k P. ap framedAs (sym (c .before .kind .given .1) ∙ above-part .ensures a k P)
+    λ a k P. is-under _ _ _ a k _ _ _ P (sym (c .before .kind .given .1) ∙ above-part .ensures a k P)
 
 pub frame-above-spec : {M : Type 1} → statement M
 frame-above-spec =

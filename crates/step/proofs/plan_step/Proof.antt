@@ -1,14 +1,11 @@
 -- `plan_step` meets its contract: the frames that it found are the first of the context, and PlanLaws says what the step is.
-use mathlib.Core.Path.{refl, sym, ap, _∙_}
+use mathlib.Core.Path.{subst}
 use mathlib.Core.List.{List}
-use native.Mathlib.Omega.{arith}
-use lib.ListN.{length}
 use Rattle.tree.specs.Tree.{Tree, node}
 use Rattle.tree.specs.Context.{Frame, sided}
-use Rattle.moves.proofs.TableLaws.{kind-small}
 use Rattle.step.specs.InnerStanding.{Standing}
-use Rattle.step.proofs.GrownLaws.{Grown, grow}
-use Rattle.step.proofs.PlanLaws.{no-parent, no-grandparent, alone-here, no-d-here, t-here, t-with-d-here, up, passes-on, stays-here}
+use Rattle.step.specs.InnerSteps.{Under, FrameIs}
+use Rattle.step.proofs.PlanLaws.{no-parent, no-grandparent, t-without-d, stuck-without-d, t-alone, t-with-d}
 use borrow.Author.Needs.{needs}
 use Rattle.step.proofs.plan_step.Statement.{statement}
 use Rattle.step.proofs.plan_step.Tie as tie
@@ -18,39 +15,37 @@ abbrev First : tie.After-known-told → Tree → List Frame → Type 0
 First c a k =
     let g = c .before .before .before .before .before .args in
     let v = c .before .b .given .0 in
-    Grown (g .list .now) (g .node .from) (g .node .to) a k (v .0) (v .1 .0) (v .1 .1 .0)
+    Under (g .list .now) a k (v .0) (v .1 .0) (v .1 .1 .0)
 
 first : (c : tie.After-known-told) (a : Tree) (k : List Frame) → let g = c .before .before .before .before .before .args in Standing (g .list .now) (g .node) a k → First c a k
 first c a k S =
     let frame-above = c .before .before .before .frame-above in
-    grow _ _ _ a k _ _ _ (S .part) (sym (c .before .b .given .1) ∙ frame-above .ensures a k (S .part))
+    subst (FrameIs _ a k) (c .before .b .given .1) (frame-above .ensures a k (S .part))
 
 abbrev Second : (c : tie.After-known-told2) (a : Tree) (k : List Frame) → First (c .before .before .before .before) a k → Type 0
 Second c a k G =
     let o = c .before .before .before .before in
-    let p = o .before .b .given .0 .1 .1 .0 in
-    let v = c .before .parent-kind .given .0 in
-    Grown (o .before .before .before .before .before .args .list .now) (p .from) (p .to) (sided (G .side) (node (G .operator)) a (G .sibling)) (G .rest) (v .0) (v .1 .0) (v .1 .1 .0)
+    let v = c .before .c .given .0 in
+    Under (o .before .before .before .before .before .args .list .now) (sided (G .side) (node (G .operator)) a (G .sibling)) (G .rest) (v .0) (v .1 .0) (v .1 .1 .0)
 
 second : (c : tie.After-known-told2) (a : Tree) (k : List Frame) (G : First (c .before .before .before .before) a k) → Second c a k G
 second c a k G =
     let frame-above2 = c .before .before .before .frame-above2 in
-    grow _ _ _ _ _ _ _ _ (G .parent) (sym (c .before .parent-kind .given .1) ∙ frame-above2 .ensures _ _ (G .parent))
+    subst (FrameIs _ _ (G .rest)) (c .before .c .given .1) (frame-above2 .ensures _ (G .rest) (G .parent))
 
 abbrev Third : (c : tie.After-known-told3) (a : Tree) (k : List Frame) (G : First (c .before .before .before .before .before .before .before .before) a k)
     → Second (c .before .before .before .before) a k G → Type 0
 Third c a k G H =
     let o = c .before .before .before .before in
-    let p = o .before .parent-kind .given .0 .1 .1 .0 in
     let v = c .before .kind .given .0 in
-    Grown (o .before .before .before .before .before .before .before .before .before .args .list .now) (p .from) (p .to)
+    Under (o .before .before .before .before .before .before .before .before .before .args .list .now)
     (sided (H .side) (node (H .operator)) (sided (G .side) (node (G .operator)) a (G .sibling)) (H .sibling)) (H .rest) (v .0) (v .1 .0) (v .1 .1 .0)
 
 third : (c : tie.After-known-told3) (a : Tree) (k : List Frame) (G : First (c .before .before .before .before .before .before .before .before) a k)
     (H : Second (c .before .before .before .before) a k G) → Third c a k G H
 third c a k G H =
     let frame-above3 = c .before .before .before .frame-above3 in
-    grow _ _ _ _ _ _ _ _ (H .parent) (sym (c .before .kind .given .1) ∙ frame-above3 .ensures _ _ (H .parent))
+    subst (FrameIs _ _ (H .rest)) (c .before .kind .given .1) (frame-above3 .ensures _ (H .rest) (H .parent))
 
 frame-above-requires : tie.Need-frame-above-requires
 frame-above-requires c κs = search needs
@@ -62,13 +57,13 @@ enum-told : tie.Need-enum-told
 enum-told c = search needs
 
 returns : tie.Need-returns
-returns c = λ a k S. no-parent _ _ k (sym (c .enum-told .given .1) ∙ c .before .before .frame-above .ensures a k (S .part))
+returns c = λ a k S. no-parent k (subst (FrameIs _ a k) (c .enum-told .given .1) (c .before .before .frame-above .ensures a k (S .part)))
 
 frame-above-requires-2 : tie.Need-frame-above-requires-2
 frame-above-requires-2 c κs = let p = c .before .before .before .before .before .pre in (_, _, first c (p .0) (p .1) (p .2) .parent)
 
-enum-known-parent-kind : tie.Need-enum-known-parent-kind
-enum-known-parent-kind c = search needs
+enum-known-c : tie.Need-enum-known-c
+enum-known-c c = search needs
 
 enum-told-2 : tie.Need-enum-told-2
 enum-told-2 c = search needs
@@ -76,7 +71,7 @@ enum-told-2 c = search needs
 returns-2 : tie.Need-returns-2
 returns-2 c = λ a k S.
     let G = first (c .before .before .before) a k S in
-    no-grandparent G (sym (c .enum-told2 .given .1) ∙ c .before .before .frame-above2 .ensures _ _ (G .parent))
+    no-grandparent G (subst (FrameIs _ _ (G .rest)) (c .enum-told2 .given .1) (c .before .before .frame-above2 .ensures _ (G .rest) (G .parent)))
 
 frame-above-requires-3 : tie.Need-frame-above-requires-3
 frame-above-requires-3 c κs =
@@ -98,7 +93,7 @@ returns-3 c =
     λ a k S.
     let G = first before a k S in
     let H = second before-call a k G in
-    alone-here G H (args .node) (S .state) (sym (c .before .before .enum-told3 .given .1) ∙ frame-above3 .ensures _ _ (H .parent)) (c .if1 .taken)
+    t-without-d G H (args .node) (S .state) (subst (FrameIs _ _ (H .rest)) (c .before .before .enum-told3 .given .1) (frame-above3 .ensures _ (H .rest) (H .parent))) (c .if1 .taken)
 
 returns-4 : tie.Need-returns-4
 returns-4 c =
@@ -109,7 +104,7 @@ returns-4 c =
     λ a k S.
     let G = first before a k S in
     let H = second before-call a k G in
-    no-d-here G H (args .node) (S .state) (sym (c .before .before .enum-told3 .given .1) ∙ frame-above3 .ensures _ _ (H .parent)) (c .if1 .left)
+    stuck-without-d G H (args .node) (S .state) (subst (FrameIs _ _ (H .rest)) (c .before .before .enum-told3 .given .1) (frame-above3 .ensures _ (H .rest) (H .parent))) (c .if1 .left)
 
 cast-input : tie.Need-cast-input
 cast-input c = search needs
@@ -122,47 +117,17 @@ returns-5 c =
     λ a k S.
     let G = first before a k S in
     let H = second before-call a k G in
-    t-here G H (args .node) (S .state) (third (c .before .before) a k G H) (c .if2 .taken)
-
-state-of-requires : tie.Need-state-of-requires
-state-of-requires c κs =
-    let before = c .before .before .before .before .before .before .before .before .before .before .before .before in
-    let before-call = c .before .before .before .before .before .before .before .before in
-    let before-call2 = c .before .before .before .before in
-    let p = before .before .before .before .before .before .pre in
-    let G = first before (p .0) (p .1) (p .2) in
-    let H = second before-call (p .0) (p .1) G in
-    let K = third before-call2 (p .0) (p .1) G H in
-    omega (arith, H .kind, K .kind, kind-small (H .side) (H .operator), kind-small (K .side) (K .operator))
-
-sub-t22 : tie.Need-sub-t22
-sub-t22 c =
-    let before = c .before .before .before .before .before .before .before .before .before .before .before .before .before .before in
-    let p = before .before .before .before .before .before .pre in omega (arith, p .2 .level, ap length (first before (p .0) (p .1) (p .2) .is))
+    t-with-d G H (args .node) (S .state) (third (c .before .before) a k G H) (c .if2 .taken)
 
 returns-6 : tie.Need-returns-6
 returns-6 c =
-    let args = c .before .before .before .before .before .before .before .before .before .before .before .before .before .before .before .before .before .before .before .args in
-    let before = c .before .before .before .before .before .before .before .before .before .before .before .before .before .before in
-    let before-call = c .before .before .before .before .before .before .before .before .before .before in
-    let before-call2 = c .before .before .before .before .before .before in
+    let args = c .before .before .before .before .before .before .before .before .before .before .before .before .before .before .before .args in
+    let before = c .before .before .before .before .before .before .before .before .before .before in
+    let before-call = c .before .before .before .before .before .before in
     λ a k S.
     let G = first before a k S in
     let H = second before-call a k G in
-    let K = third before-call2 a k G H in
-    let h = passes-on _ _ (c .before .before .if3 .taken) in
-    up G H (args .node) (S .state) K refl (S .level) (h .0) (h .1) (c .before .state-of .result) (c .before .state-of .ensures (H .side) (H .operator) (K .side) (K .operator))
-
-returns-7 : tie.Need-returns-7
-returns-7 c =
-    let args = c .before .before .before .before .before .before .before .before .before .before .before .before .before .before .before .before .before .args in
-    let before = c .before .before .before .before .before .before .before .before .before .before .before .before in
-    let before-call = c .before .before .before .before .before .before .before .before in
-    let before-call2 = c .before .before .before .before in
-    λ a k S.
-    let G = first before a k S in
-    let H = second before-call a k G in
-    t-with-d-here G H (args .node) (S .state) (third before-call2 a k G H) (c .before .before .if2 .left) (stays-here _ _ (c .if3 .left))
+    t-alone G H (args .node) (S .state) (third (c .before .before) a k G H) (c .if2 .left)
 
 pub plan-step-spec : {M : Type 1} → statement M
 plan-step-spec =
@@ -173,7 +138,7 @@ plan-step-spec =
     enum-told
     returns
     frame-above-requires-2
-    enum-known-parent-kind
+    enum-known-c
     enum-told-2
     returns-2
     frame-above-requires-3
@@ -183,7 +148,4 @@ plan-step-spec =
     returns-4
     cast-input
     returns-5
-    state-of-requires
-    sub-t22
-    returns-6
-    returns-7)
+    returns-6)

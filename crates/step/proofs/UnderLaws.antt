@@ -8,32 +8,26 @@ use Rattle.tree.specs.Tree.{Operator, Tree, node, postfix, size}
 use Rattle.tree.specs.Context.{Side, left, right, Frame, frame, sided, plug, before}
 use Rattle.tree.specs.InnerPart.{Part, aboveOf, kindOf}
 use Rattle.tree.proofs.PartLaws.{part-length, part-own, before-right}
-use Rattle.moves.specs.InnerWords.{cut, Range}
-use Rattle.step.specs.InnerSteps.{framedAs}
+use Rattle.tree.specs.declared.Above.the-variants as above
+use Rattle.moves.specs.InnerWords.{Range}
+use Rattle.step.specs.InnerSteps.{Under}
 use Rattle.step.specs.declared.Stretch.{Stretch}
-use Rattle.step.specs.declared.Framed.the-variants.{Under}
 
 module _ {l : List ℕ} {f t : ℕ} {a : Tree} {c : List Frame} (P : Part l f t a c) where
   pub part-range : Range l f t
   part-range = record { low = omega (arith, P .ends); high = omega (arith, part-length P) }
 
--- the part is not the root: its frame, its sibling's stretch, and its parent
-pub record Grown (l : List ℕ) (f t : ℕ) (a : Tree) (c : List Frame) (k : ℕ) (atB atP : Stretch) : Type 0 where
-  pub side : Side
-  pub operator : Operator
-  pub sibling : Tree
-  pub rest : List Frame
-  pub is : c ≡ frame side operator sibling ∷ rest
-  pub kind : k ≡ kindOf side operator
-  pub parent : Part l (atP .from) (atP .to) (sided side (node operator) a sibling) rest
-  pub range : Range l (atB .from) (atB .to)
-  pub entries : cut l (atB .from) (atB .to) ≡ postfix sibling
-  pub begins : atP .from ≤ f
-
-pub grow : (l : List ℕ) (f t : ℕ) (a : Tree) (c : List Frame) (k : ℕ) (atB atP : Stretch) → Part l f t a c → Under k atB atP ≡ framedAs (aboveOf f t c) → Grown l f t a c k atB atP
+pub is-root : (f t : ℕ) (c : List Frame) → above.Root ≡ aboveOf f t c → c ≡ []
 unfolding aboveOf
-grow l f t a [] k atB atP P e = absurd (let z : _≡_ {A = ℕ} 0 1 = cc in omega arith)
-grow l f t a (frame left o b ∷ c) k atB atP P e =
+is-root f t [] e = refl
+is-root f t (frame left o b ∷ c) e = absurd (let z : _≡_ {A = ℕ} 0 1 = cc in omega arith)
+is-root f t (frame right o b ∷ c) e = absurd (let z : _≡_ {A = ℕ} 0 1 = cc in omega arith)
+
+pub is-under : (l : List ℕ) (f t : ℕ) (a : Tree) (c : List Frame) (k : ℕ) (atB atP : Stretch) → Part l f t a c
+    → above.Under k (atB .from) (atB .to) (atP .from) (atP .to) ≡ aboveOf f t c → Under l a c k atB atP
+unfolding aboveOf
+is-under l f t a [] k atB atP P e = absurd (let z : _≡_ {A = ℕ} 0 1 = cc in omega arith)
+is-under l f t a (frame left o b ∷ c) k atB atP P e =
     let e₁ : atB .from ≡ t = cc in
     let e₂ : atB .to ≡ t + size b = cc in
     let e₃ : atP .from ≡ f = cc in
@@ -51,9 +45,8 @@ grow l f t a (frame left o b ∷ c) k atB atP P e =
       parent = record { whole = unfold plug in P .whole; begins = omega arith; ends = omega (arith, P .ends) };
       range = part-range Q;
       entries = part-own Q;
-      begins = omega arith;
     }
-grow l f t a (frame right o b ∷ c) k atB atP P e =
+is-under l f t a (frame right o b ∷ c) k atB atP P e =
     let e₁ : atB .from ≡ f - size b = cc in
     let e₂ : atB .to ≡ f = cc in
     let e₃ : atP .from ≡ f - size b = cc in
@@ -72,5 +65,4 @@ grow l f t a (frame right o b ∷ c) k atB atP P e =
       parent = record { whole = unfold plug in P .whole; begins = omega arith; ends = omega (arith, P .ends) };
       range = part-range Q;
       entries = part-own Q;
-      begins = omega arith;
     }
