@@ -11,7 +11,7 @@ use Rattle.moves.specs.InnerEntries.{stateNumber, inputNumber}
 use Rattle.moves.proofs.TableLaws.{kind-input}
 use Rattle.step.specs.Step.{stuck, moved, step, stepBy}
 use Rattle.step.specs.InnerStanding.{StateIs}
-use Rattle.step.specs.InnerSteps.{Under, ReplaceIs}
+use Rattle.step.specs.InnerSteps.{UnderIs, ReplaceIs}
 use Rattle.step.specs.declared.Stretch.{Stretch}
 use Rattle.step.specs.declared.Node.{Node}
 use Rattle.step.proofs.StepLaws.{step-level, by-t, no-d, by-t-with-d}
@@ -32,11 +32,11 @@ short-state [] s h = tt
 short-state (f ∷ []) s h = tt
 short-state (f ∷ (g ∷ r)) s h = absurd (omega arith)
 
-module _ {l : List ℕ} {a : Tree} {c : List Frame} {k₁ : ℕ} {atB atP : Stretch} (G : Under l a c k₁ atB atP) where
+module _ {l : List ℕ} {a : Tree} {c : List Frame} {k₁ : ℕ} {atB atP : Stretch} (G : UnderIs l a c k₁ atB atP) where
   pub no-grandparent : G .rest ≡ [] → step c ≡ stuck
   no-grandparent e = ap step (G .is ∙ ap (λ (r : List Frame). frame (G .side) (G .operator) (G .sibling) ∷ r) e) ∙ (unfold step in refl)
 
-  module _ {k₂ : ℕ} {atC atT : Stretch} (H : Under l (sided (G .side) (node (G .operator)) a (G .sibling)) (G .rest) k₂ atC atT) where
+  module _ {k₂ : ℕ} {atC atT : Stretch} (H : UnderIs l (sided (G .side) (node (G .operator)) a (G .sibling)) (G .rest) k₂ atC atT) where
     abbrev x : State
     x = stateOf (G .side) (G .operator) (H .side) (H .operator)
 
@@ -90,7 +90,7 @@ module _ {l : List ℕ} {a : Tree} {c : List Frame} {k₁ : ℕ} {atB atP : Stre
         stuck-without-d h = step-is e ∙ no-d x (G .sibling) (H .sibling) (omega (arith, state-is))
 
       -- there is one
-      module _ {k₃ : ℕ} {atD atU : Stretch} (K : Under l (sided (H .side) (node (H .operator)) (sided (G .side) (node (G .operator)) a (G .sibling)) (H .sibling)) (H .rest) k₃ atD atU) where
+      module _ {k₃ : ℕ} {atD atU : Stretch} (K : UnderIs l (sided (H .side) (node (H .operator)) (sided (G .side) (node (G .operator)) a (G .sibling)) (H .sibling)) (H .rest) k₃ atD atU) where
         input-is : k₃ ≡ inputNumber (inputOf (K .side) (K .operator))
         input-is = K .kind ∙ kind-input (K .side) (K .operator)
 

@@ -1,16 +1,16 @@
 -- From a part to its parent: what the innermost frame says of the list.
 use mathlib.Core.Path.{_≡_, refl, _∙_}
 use mathlib.Core.List.{List, [], _∷_}
-use Prim.Native.Nat.{ℕ, _+_, _-_, _≤_}
+use Prim.Native.Nat.{ℕ, _+_, _-_}
 use native.Mathlib.Omega.{arith}
 use lib.ListN.{length}
-use Rattle.tree.specs.Tree.{Operator, Tree, node, postfix, size}
-use Rattle.tree.specs.Context.{Side, left, right, Frame, frame, sided, plug, before}
-use Rattle.tree.specs.InnerPart.{Part, aboveOf, kindOf}
+use Rattle.tree.specs.Tree.{Tree, node, size}
+use Rattle.tree.specs.Context.{left, right, Frame, frame, plug, before}
+use Rattle.tree.specs.InnerPart.{Part, aboveOf}
 use Rattle.tree.proofs.PartLaws.{part-length, part-own, before-right}
 use Rattle.tree.specs.declared.Above.the-variants as above
 use Rattle.moves.specs.InnerWords.{Range}
-use Rattle.step.specs.InnerSteps.{Under}
+use Rattle.step.specs.InnerSteps.{UnderIs}
 use Rattle.step.specs.declared.Stretch.{Stretch}
 
 module _ {l : List ℕ} {f t : ℕ} {a : Tree} {c : List Frame} (P : Part l f t a c) where
@@ -24,7 +24,7 @@ is-root f t (frame left o b ∷ c) e = absurd (let z : _≡_ {A = ℕ} 0 1 = cc 
 is-root f t (frame right o b ∷ c) e = absurd (let z : _≡_ {A = ℕ} 0 1 = cc in omega arith)
 
 pub is-under : (l : List ℕ) (f t : ℕ) (a : Tree) (c : List Frame) (k : ℕ) (atB atP : Stretch) → Part l f t a c
-    → above.Under k (atB .from) (atB .to) (atP .from) (atP .to) ≡ aboveOf f t c → Under l a c k atB atP
+    → above.Under k (atB .from) (atB .to) (atP .from) (atP .to) ≡ aboveOf f t c → UnderIs l a c k atB atP
 unfolding aboveOf
 is-under l f t a [] k atB atP P e = absurd (let z : _≡_ {A = ℕ} 0 1 = cc in omega arith)
 is-under l f t a (frame left o b ∷ c) k atB atP P e =

@@ -21,7 +21,7 @@ use Rattle.step.specs.declared.Stepped.{Stepped}
 use Rattle.step.specs.declared.Stepped.the-variants as stepped
 
 -- the part a with the context c is not the root: its innermost frame, of this kind, its sibling's stretch and its parent's
-pub record Under (list : List ℕ) (a : Tree) (c : List Frame) (k : ℕ) (atB atP : Stretch) : Type 0 where
+pub record UnderIs (list : List ℕ) (a : Tree) (c : List Frame) (k : ℕ) (atB atP : Stretch) : Type 0 where
   pub side : Side
   pub operator : Operator
   pub sibling : Tree
@@ -35,7 +35,7 @@ pub record Under (list : List ℕ) (a : Tree) (c : List Frame) (k : ℕ) (atB at
 -- what is said of the innermost frame
 abbrev pub FrameIs : List ℕ → Tree → List Frame → Framed → Type 0
 FrameIs list a c framed.Root = c ≡ []
-FrameIs list a c (framed.Under k atB atP) = Under list a c k atB atP
+FrameIs list a c (framed.Under k atB atP) = UnderIs list a c k atB atP
 
 -- the step replaces the part x, whose context is r, by an entry over B, C and D, whose stretches are given, and A then has the table's next state
 pub record ReplaceIs (list : List ℕ) (n : Node) (c : List Frame) (input : ℕ) (atB atC atD whole : Stretch) : Type 0 where

@@ -7,7 +7,7 @@ use Rattle.tree.specs.Context.{Frame, frame, sided}
 use Rattle.tree.specs.InnerPart.{Part}
 use Rattle.moves.proofs.TableLaws.{kind-small}
 use Rattle.step.specs.InnerStanding.{StateIs}
-use Rattle.step.specs.InnerSteps.{Under, FrameIs}
+use Rattle.step.specs.InnerSteps.{UnderIs, FrameIs}
 use borrow.Author.Needs.{needs}
 use Rattle.step.proofs.first_state.Statement.{statement}
 use Rattle.step.proofs.first_state.Tie as tie
@@ -17,7 +17,7 @@ abbrev First : tie.After-known-told → Tree → List Frame → Type 0
 First c a k =
     let g = c .before .before .before .before .before .args in
     let v = c .before .own .given .0 in
-    Under (g .list .now) a k (v .0) (v .1 .0) (v .1 .1 .0)
+    UnderIs (g .list .now) a k (v .0) (v .1 .0) (v .1 .1 .0)
 
 first : (c : tie.After-known-told) (a : Tree) (k : List Frame) → let g = c .before .before .before .before .before .args in
     Part (g .list .now) (g .part .from) (g .part .to) a k → First c a k
@@ -29,7 +29,7 @@ abbrev Second : (c : tie.After-known-told2) (a : Tree) (k : List Frame) → Firs
 Second c a k G =
     let o = c .before .before .before .before in
     let v = c .before .parent-kind .given .0 in
-    Under (o .before .before .before .before .before .args .list .now) (sided (G .side) (node (G .operator)) a (G .sibling)) (G .rest) (v .0) (v .1 .0) (v .1 .1 .0)
+    UnderIs (o .before .before .before .before .before .args .list .now) (sided (G .side) (node (G .operator)) a (G .sibling)) (G .rest) (v .0) (v .1 .0) (v .1 .1 .0)
 
 second : (c : tie.After-known-told2) (a : Tree) (k : List Frame) (G : First (c .before .before .before .before) a k) → Second c a k G
 second c a k G =

@@ -4,7 +4,7 @@ use mathlib.Core.List.{List}
 use Rattle.tree.specs.Tree.{Tree, node}
 use Rattle.tree.specs.Context.{Frame, sided}
 use Rattle.step.specs.InnerStanding.{Standing}
-use Rattle.step.specs.InnerSteps.{Under, FrameIs}
+use Rattle.step.specs.InnerSteps.{UnderIs, FrameIs}
 use Rattle.step.proofs.PlanLaws.{no-parent, no-grandparent, t-without-d, stuck-without-d, t-alone, t-with-d}
 use borrow.Author.Needs.{needs}
 use Rattle.step.proofs.plan_step.Statement.{statement}
@@ -15,7 +15,7 @@ abbrev First : tie.After-known-told → Tree → List Frame → Type 0
 First c a k =
     let g = c .before .before .before .before .before .args in
     let v = c .before .b .given .0 in
-    Under (g .list .now) a k (v .0) (v .1 .0) (v .1 .1 .0)
+    UnderIs (g .list .now) a k (v .0) (v .1 .0) (v .1 .1 .0)
 
 first : (c : tie.After-known-told) (a : Tree) (k : List Frame) → let g = c .before .before .before .before .before .args in Standing (g .list .now) (g .node) a k → First c a k
 first c a k S =
@@ -26,7 +26,7 @@ abbrev Second : (c : tie.After-known-told2) (a : Tree) (k : List Frame) → Firs
 Second c a k G =
     let o = c .before .before .before .before in
     let v = c .before .c .given .0 in
-    Under (o .before .before .before .before .before .args .list .now) (sided (G .side) (node (G .operator)) a (G .sibling)) (G .rest) (v .0) (v .1 .0) (v .1 .1 .0)
+    UnderIs (o .before .before .before .before .before .args .list .now) (sided (G .side) (node (G .operator)) a (G .sibling)) (G .rest) (v .0) (v .1 .0) (v .1 .1 .0)
 
 second : (c : tie.After-known-told2) (a : Tree) (k : List Frame) (G : First (c .before .before .before .before) a k) → Second c a k G
 second c a k G =
@@ -38,7 +38,7 @@ abbrev Third : (c : tie.After-known-told3) (a : Tree) (k : List Frame) (G : Firs
 Third c a k G H =
     let o = c .before .before .before .before in
     let v = c .before .kind .given .0 in
-    Under (o .before .before .before .before .before .before .before .before .before .args .list .now)
+    UnderIs (o .before .before .before .before .before .before .before .before .before .args .list .now)
     (sided (H .side) (node (H .operator)) (sided (G .side) (node (G .operator)) a (G .sibling)) (H .sibling)) (H .rest) (v .0) (v .1 .0) (v .1 .1 .0)
 
 third : (c : tie.After-known-told3) (a : Tree) (k : List Frame) (G : First (c .before .before .before .before .before .before .before .before) a k)
