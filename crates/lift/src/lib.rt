@@ -67,7 +67,7 @@ fn run(
     match step::step(&x[..nodes], node, y) {
         Stepped::Stuck => Lifted::Refused(NO_STEP),
         Stepped::TooLong => Lifted::Refused(TOO_LONG),
-        Stepped::Done(more, next) => run(y, x, more, next, levels - 1, looks + 1, out),
+        Stepped::Done(count, next) => run(y, x, count, next, levels - 1, looks + 1, out),
     }
 }
 

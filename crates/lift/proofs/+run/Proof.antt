@@ -45,11 +45,11 @@ whole t g = length-take-le (g .args .nodes) (g .args .x .now) (omega (arith, g .
 -- what the step answered, where it was done
 step-done : (t : ℕ) (c : run-lts.After-known-told (calls t) (run-at t) run.Post) (a : Tree) (k : List Frame)
     → let g = c .before .before .before .before .before .before .before .before .before .before .before .before .args in
-    let v = c .before .more .given .0 in
+    let v = c .before .count .given .0 in
     Standing (take (g .nodes) (g .x .now)) (g .node) a k → StepDone a k (v .0) (v .1 .0) (c .before .before .before .before .before .step .last .1 .1 .0)
 step-done t c a k S =
     let r = c .before .before .before .before .before .step in
-    subst (λ (x : Stepped). StepIs a k x (r .last .1 .1 .0)) (c .before .more .given .1) (r .ensures a k S)
+    subst (λ (x : Stepped). StepIs a k x (r .last .1 .1 .0)) (c .before .count .given .1) (r .ensures a k S)
 
 run-slice-reshare-prefix-copy : (t : ℕ) → run-lts.Need-slice-reshare-prefix-copy (calls t) (run-at t) run.Post
 run-slice-reshare-prefix-copy t c = search needs
@@ -91,8 +91,8 @@ run-enum-told t c = search needs
 run-enum-told-2 : (t : ℕ) → run-lts.Need-enum-told-2 (calls t) (run-at t) run.Post
 run-enum-told-2 t c = search needs
 
-run-enum-known-more : (t : ℕ) → run-lts.Need-enum-known-more (calls t) (run-at t) run.Post
-run-enum-known-more t c = search needs
+run-enum-known-count : (t : ℕ) → run-lts.Need-enum-known-count (calls t) (run-at t) run.Post
+run-enum-known-count t c = search needs
 
 run-sub-run : (t : ℕ) → run-lts.Need-sub-run (calls t) (run-at t) run.Post
 run-sub-run t c = omega (arith, c .before .before .before .before .before .before .before .before .before .before .if1 .left)
@@ -174,7 +174,7 @@ pub +run-spec : {M : Type 1} → statement M
     (run-step-requires t)
     (run-enum-told t)
     (run-enum-told-2 t)
-    (run-enum-known-more t)
+    (run-enum-known-count t)
     (run-sub-run t)
     (run-add-run t)
     (run-run-requires t)
