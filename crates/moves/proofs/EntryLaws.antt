@@ -10,7 +10,8 @@ use Rattle.tree.specs.Context.{left, right, Frame, frame, plug}
 use Rattle.tree.proofs.ContextLaws.{plug-append}
 use Rattle.moves.specs.Moves.{Formula, A, B, C, D, join, value, framesOf}
 use Rattle.moves.proofs.Cases.{first-true, second-true}
-use Rattle.moves.proofs.MoveLaws.{once, agree, both, agree-at, plug-frames}
+use Rattle.moves.specs.InnerEntries.{once}
+use Rattle.moves.proofs.MoveLaws.{agree, both, agree-at, plug-frames}
 
 -- ---- what the tree comes to, for operators that mean f
 module _ (f : Operator → Bool → Bool → Bool) (v : ℕ → Bool) where

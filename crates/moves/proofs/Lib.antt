@@ -1,7 +1,7 @@
 -- The laws of the definitions in specs/, for this crate and those above it.
 pub mod Cases
+pub mod TableLaws
 pub mod MoveLaws
 pub mod EntryLaws
-pub mod TableLaws
 pub mod WordLaws
 pub mod ReplaceLaws

@@ -5,25 +5,18 @@ use mathlib.Core.Bool.{Bool, true, false, not, cond, _&&_, _||_, Bool·beq}
 use mathlib.Core.List.{[], _∷_, _++_}
 use Prim.Native.Nat.{ℕ, _+_}
 use native.Mathlib.Omega.{arith}
-use lib.Dec.{T, eqb, eqb→eq}
+use lib.Dec.{T, eqb, eqb→eq, leb}
 use lib.ListN.{length, length-append}
 use Rattle.tree.specs.Tree.{Operator, Tree, node, apply}
 use Rattle.tree.specs.Context.{Side, left, right, frame, sided, plug}
 use Rattle.tree.proofs.TreeLaws.{and-left, and-right}
 use Rattle.tree.proofs.ContextLaws.{plug-append}
-use Rattle.moves.specs.Moves.{Formula, A, B, C, D, join, Move, replaceT, replaceTWithD, moveOf, stateOf, inputOf, under, namesA, value, framesOf, State, state1, state2, state3, state4, state5, state6, state7, state8, state9, Input, inputA, inputB, inputC, inputD}
-use Rattle.moves.specs.InnerEntries.{entryOf}
+use Rattle.moves.specs.Moves.{Formula, A, B, C, D, join, Move, replaceT, replaceTWithD, moveOf, stateOf, inputOf, under, namesA, value, framesOf, State, Input, inputA}
+use Rattle.moves.specs.InnerEntries.{stateNumber, entryOf, once}
 use Rattle.moves.proofs.Cases.{equal-bools, allFillings, at-filling, allKinds, at-kind}
+use Rattle.moves.proofs.TableLaws.{same-entry}
 
 -- ---- the test
--- a formula names A exactly once
-abbrev pub once : Formula → Bool
-once A = true
-once B = false
-once C = false
-once D = false
-once (join o p q) = cond (namesA p) (once p && not (namesA q)) (once q)
-
 -- A's level in a formula
 abbrev pub levelOfA : Formula → ℕ
 levelOfA A = 0
@@ -153,23 +146,15 @@ frames-t-with-d right o left q right w b c d = refl
 frames-t-with-d right o right q left w b c d = refl
 frames-t-with-d right o right q right w b c d = refl
 
--- ---- each entry names A once
-abbrev under-all : (Input → Bool) → Bool
-under-all f = (f inputA && f inputB) && (f inputC && f inputD)
-
-at-input : (f : Input → Bool) → T (under-all f) → (i : Input) → T (f i)
-at-input f t inputA = and-left (f inputA) _ (and-left (f inputA && f inputB) _ t)
-at-input f t inputB = and-right (f inputA) _ (and-left (f inputA && f inputB) _ t)
-at-input f t inputC = and-left (f inputC) _ (and-right (f inputA && f inputB) _ t)
-at-input f t inputD = and-right (f inputC) _ (and-right (f inputA && f inputB) _ t)
-
+-- ---- the table by states and inputs
+-- each entry names A once
 pub once-entry : (x : State) (i : Input) → T (once (entryOf (moveOf x) i))
-once-entry state1 i = tt
-once-entry state2 i = tt
-once-entry state3 i = tt
-once-entry state4 i = tt
-once-entry state5 i = at-input (λ i. once (entryOf (moveOf state5) i)) tt i
-once-entry state6 i = at-input (λ i. once (entryOf (moveOf state6) i)) tt i
-once-entry state7 i = at-input (λ i. once (entryOf (moveOf state7) i)) tt i
-once-entry state8 i = at-input (λ i. once (entryOf (moveOf state8) i)) tt i
-once-entry state9 i = at-input (λ i. once (entryOf (moveOf state9) i)) tt i
+once-entry x i = subst T (sym (same-entry (λ x i. once (entryOf (moveOf x) i)) (λ x i. true) refl x i)) tt
+
+-- states 1 to 4 replace T alone, states 5 to 9 T with D
+abbrev pub alone : Move → Bool
+alone (replaceT p) = true
+alone (replaceTWithD p q s t) = false
+
+pub alone-number : (x : State) → alone (moveOf x) ≡ leb (stateNumber x) 4
+alone-number x = same-entry (λ x i. alone (moveOf x)) (λ x i. leb (stateNumber x) 4) refl x inputA

@@ -1,6 +1,6 @@
 -- The code's constant tables are the definitions' values in order: a table of all values of a function, and its entry at a place.
 -- That such a table is the code's is a computation.
-use mathlib.Core.Path.{_≡_, refl}
+use mathlib.Core.Path.{_≡_, refl, sym, ap, _∙_}
 use mathlib.Core.List.{List, [], _∷_}
 use Prim.Native.Nat.{ℕ, _-_, _≤_, _<_}
 use native.Mathlib.Omega.{arith}
@@ -47,6 +47,13 @@ at-kind f d right difference = refl
 pub entry-at : {X : Type 0} (f : State → Input → X) (d : X) (x : State) (i : Input) (s n : ℕ) → s ≡ stateNumber x → n ≡ inputNumber i
     → getD (getD (byState (λ x. byInput (f x))) (s - 1) []) n d ≡ f x i
 entry-at f d x i s n p q = rw (p, q) (rw (at-state (λ x. byInput (f x)) [] x) (at-input (f x) d i))
+
+-- two tables with the same values in order are of the same function
+pub same-entry : {X : Type 0} (f g : State → Input → X) → byState (λ x. byInput (f x)) ≡ byState (λ x. byInput (g x)) → (x : State) (i : Input) → f x i ≡ g x i
+same-entry f g e x i =
+    sym (entry-at f (f x i) x i (stateNumber x) (inputNumber i) refl refl)
+    ∙ ap (λ t. getD (getD t (stateNumber x - 1) []) (inputNumber i) (f x i)) e
+    ∙ entry-at g (f x i) x i (stateNumber x) (inputNumber i) refl refl
 
 -- by two kinds
 pub entry-of-kinds : {X : Type 0} (f : Side → Operator → Side → Operator → X) (d : X) (s : Side) (o : Operator) (t : Side) (q : Operator) (m n : ℕ) → m ≡ kindOf s o → n ≡ kindOf t q

@@ -15,7 +15,8 @@ use Rattle.tree.proofs.TreeLaws.{and-left}
 use Rattle.tree.proofs.PassLaws.{here}
 use Rattle.moves.specs.Moves.{Formula, A, B, C, D, join, namesA, value, framesOf}
 use Rattle.moves.specs.InnerWords.{operatorSign, firstPart, blank, word, padded, cut, Range, partOf, signFor, spell, leading}
-use Rattle.moves.proofs.MoveLaws.{once, without-a}
+use Rattle.moves.specs.InnerEntries.{once}
+use Rattle.moves.proofs.MoveLaws.{without-a}
 
 -- ---- one sign
 module _ (l from to : List ℕ) (s : ℕ) where

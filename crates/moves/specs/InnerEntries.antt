@@ -1,6 +1,7 @@
--- The numbers by which the code's tables are read, and a table's entry. No contract of one of 01's calls cites this file.
+-- The numbers by which the code's tables are read, a table's entry, and what is asked of it. No contract of one of 01's calls cites this file.
+use mathlib.Core.Bool.{Bool, true, false, not, cond, _&&_}
 use Prim.Native.Nat.{ℕ}
-use Rattle.moves.specs.Moves.{Formula, State, state1, state2, state3, state4, state5, state6, state7, state8, state9, Input, under, Move, replaceT, replaceTWithD}
+use Rattle.moves.specs.Moves.{Formula, A, B, C, D, join, namesA, State, state1, state2, state3, state4, state5, state6, state7, state8, state9, Input, under, Move, replaceT, replaceTWithD}
 
 -- a state's number
 abbrev pub stateNumber : State → ℕ
@@ -22,3 +23,11 @@ inputNumber i = under i 0 1 2 3
 abbrev pub entryOf : Move → Input → Formula
 entryOf (replaceT p) i = p
 entryOf (replaceTWithD p q s t) i = under i p q s t
+
+-- a formula names A exactly once
+abbrev pub once : Formula → Bool
+once A = true
+once B = false
+once C = false
+once D = false
+once (join o p q) = cond (namesA p) (once p && not (namesA q)) (once q)

@@ -100,12 +100,14 @@ namesA C = false
 namesA D = false
 namesA (join o p q) = namesA p || namesA q
 
--- A's context in a formula that names A once, over the trees b, c and d
+-- the frames above A in a formula that names A once, innermost first: f makes each of A's side, the operator and the other operand
+abbrev pub above : {X : Type 0} → (Side → Operator → Formula → X) → Formula → List X
+above f A = []
+above f B = []
+above f C = []
+above f D = []
+above f (join o p q) = cond (namesA p) (above f p ++ (f left o q ∷ [])) (above f q ++ (f right o p ∷ []))
+
+-- A's context in such a formula, over the trees b, c and d
 abbrev pub framesOf : Tree → Tree → Tree → Formula → List Frame
-framesOf b c d A = []
-framesOf b c d B = []
-framesOf b c d C = []
-framesOf b c d D = []
-framesOf b c d (join o p q) =
-    cond (namesA p) (framesOf b c d p ++ (frame left o (value node b b c d q) ∷ []))
-    (framesOf b c d q ++ (frame right o (value node b b c d p) ∷ []))
+framesOf b c d p = above (λ s o q. frame s o (value node b b c d q)) p

@@ -4,9 +4,11 @@ ghost use mathlib.Core.Path.{_≡_};
 ghost use mathlib.Core.List.{List};
 ghost use Prim.Native.Nat.{ℕ, _+_, _*_, _≤_, _<_};
 ghost use lib.ListN.{length, take};
-ghost use Rattle.tree.specs.Tree.{mostNodes};
+ghost use Rattle.tree.specs.Tree.{Operator, mostNodes};
+ghost use Rattle.tree.specs.Context.{Side};
+ghost use Rattle.tree.specs.InnerPart.{kindOf};
 ghost use Rattle.tree.specs.InnerWriting.{Wrote};
-ghost use Rattle.moves.specs.Moves.{State, Input, moveOf, nextState};
+ghost use Rattle.moves.specs.Moves.{State, stateOf, Input, moveOf, nextState};
 ghost use Rattle.moves.specs.InnerEntries.{stateNumber, inputNumber, entryOf};
 ghost use Rattle.moves.specs.InnerWords.{partOf, Within, Bounded, signFor, spell, leading, word, padded, mostSigns, replaced};
 ghost use Rattle.moves.specs.InnerReplacing.{Replaced, EntryReplaced};
@@ -86,6 +88,12 @@ const NEXT: [[usize; 4]; 9] = [
     [9, 9, 9, 7],
 ];
 
+// The state by A's kind and its parent's: A U B, A - B, B U A, B - A, and the same with the parent's part for A and C for B.
+const STATES: [[usize; 4]; 4] = [[1, 5, 1, 2], [6, 3, 6, 8], [1, 5, 1, 2], [7, 4, 7, 9]];
+
+// States 1 to 4 replace T alone, the others T with D.
+pub const LAST_ALONE: usize = 4;
+
 // What a replacement answers: its result is too long; or how many nodes the new tree has, and where A begins in it.
 pub enum Replacement {
     TooLong,
@@ -108,6 +116,15 @@ pub fn next_state(state: usize, input: usize) -> usize
 {
     let row = NEXT[state - 1];
     row[input]
+}
+
+// The state of a part, by its own kind and its parent's.
+pub fn state_of(own: u8, parent: u8) -> usize
+    requires { ⌜ (own < 4) × (parent < 4) ⌝ }
+    ensures { λ r. ⌜ ((s : Side) (o : Operator) (t : Side) (q : Operator) → own ≡ kindOf s o → parent ≡ kindOf t q → r ≡ stateNumber (stateOf s o t q)) ⌝ }
+{
+    let row = STATES[own as usize];
+    row[parent as usize]
 }
 
 // Which of the four parts a sign names, 4 for none.

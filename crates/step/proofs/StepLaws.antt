@@ -6,14 +6,14 @@ use mathlib.Core.List.{List, [], _∷_, _++_}
 use Prim.Native.Nat.{ℕ, _+_, _≤_, _<_}
 use native.Mathlib.Omega.{arith}
 use borrow.Author.Tests.{le-leb, lt-leb, leb-false}
-use lib.Dec.{T, leb}
+use lib.Dec.{T}
 use lib.ListN.{length, length-append}
 use Rattle.tree.specs.Tree.{Operator, Tree, selects, apply, Over}
 use Rattle.tree.specs.Context.{Side, Frame, frame, plug}
-use Rattle.moves.specs.Moves.{Formula, Move, replaceT, replaceTWithD, State, state1, state2, state3, state4, state5, state6, state7, state8, state9, Input, moveOf, stateOf, inputOf, under, framesOf}
+use Rattle.moves.specs.Moves.{Formula, Move, replaceT, replaceTWithD, State, Input, moveOf, stateOf, inputOf, under, framesOf}
 use Rattle.moves.specs.InnerEntries.{stateNumber, entryOf}
 use Rattle.moves.proofs.Cases.{at-kind}
-use Rattle.moves.proofs.MoveLaws.{agree, both, replaces, Replaces, may-replace, formulaT, formulaTWithD, right-move, every-move, levelOfA, frames-level, frames-t, frames-t-with-d}
+use Rattle.moves.proofs.MoveLaws.{agree, both, replaces, Replaces, may-replace, formulaT, formulaTWithD, right-move, every-move, levelOfA, frames-level, frames-t, frames-t-with-d, alone, alone-number}
 use Rattle.moves.proofs.EntryLaws.{evaluate, entry-same, evaluate-selects, over-evaluate, evaluate-over}
 use Rattle.step.specs.Step.{Outcome, stuck, moved, stepBy, step}
 
@@ -104,22 +104,7 @@ step-level c e h =
         let M = makes c e h in
         length-append (framesOf (M .b) (M .c′) (M .d) p) (M .r) ∙ ap (λ (n : ℕ). n + length (M .r)) (frames-level (M .b) (M .c′) (M .d) p)
 
--- ---- a step by its state's number: states 1 to 4 replace T alone, states 5 to 9 T with D
-abbrev alone : Move → Bool
-alone (replaceT p) = true
-alone (replaceTWithD p q s t) = false
-
-alone-number : (x : State) → alone (moveOf x) ≡ leb (stateNumber x) 4
-alone-number state1 = refl
-alone-number state2 = refl
-alone-number state3 = refl
-alone-number state4 = refl
-alone-number state5 = refl
-alone-number state6 = refl
-alone-number state7 = refl
-alone-number state8 = refl
-alone-number state9 = refl
-
+-- ---- a step by its state's number
 pub by-t : (x : State) (i : Input) (b c : Tree) (r : List Frame) → stateNumber x ≤ 4 → stepBy (moveOf x) b c r ≡ moved (framesOf b c c (entryOf (moveOf x) i) ++ r)
 by-t x i b c r h = go (moveOf x) (alone-number x ∙ le-leb (stateNumber x) 4 h)
   where

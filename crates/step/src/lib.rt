@@ -1,23 +1,15 @@
 // One step of a lift by Table 9: what the three frames above a node make of it, and the step carried out.
-ghost use mathlib.Core.Path.{_≡_};
 ghost use mathlib.Core.List.{List};
 ghost use Prim.Native.Nat.{_≤_, _<_};
 ghost use lib.ListN.{length};
-ghost use Rattle.tree.specs.Tree.{Operator, Tree, mostNodes};
-ghost use Rattle.tree.specs.Context.{Side, Frame};
-ghost use Rattle.tree.specs.InnerPart.{Part, Located, kindOf};
-ghost use Rattle.moves.specs.Moves.{stateOf};
-ghost use Rattle.moves.specs.InnerEntries.{stateNumber};
+ghost use Rattle.tree.specs.Tree.{Tree, mostNodes};
+ghost use Rattle.tree.specs.Context.{Frame};
+ghost use Rattle.tree.specs.InnerPart.{Part, Located};
 ghost use Rattle.step.specs.InnerStanding.{StateIs, Standing, Stands};
 ghost use Rattle.step.specs.InnerSteps.{FrameIs, Planned, StepIs};
+use moves::LAST_ALONE;
 use moves::Replacement;
 use tree::Above;
-
-// The state by A's kind and its parent's: A U B, A - B, B U A, B - A, and the same with the parent's part for A and C for B.
-const STATES: [[usize; 4]; 4] = [[1, 5, 1, 2], [6, 3, 6, 8], [1, 5, 1, 2], [7, 4, 7, 9]];
-
-// States 1 to 4 replace T alone, the others T with D.
-const LAST_ALONE: usize = 4;
 
 // A node of a tree's list: its part's entries, from `from` up to, not including, `to`; and its state, where it has a grandparent.
 pub struct Node {
@@ -49,15 +41,6 @@ pub enum Stepped {
     Stuck,
     TooLong,
     Done(usize, Node),
-}
-
-// The state of a part, by its own kind and its parent's.
-fn state_of(own: u8, parent: u8) -> usize
-    requires { ⌜ (own < 4) × (parent < 4) ⌝ }
-    ensures { λ r. ⌜ ((s : Side) (o : Operator) (t : Side) (q : Operator) → own ≡ kindOf s o → parent ≡ kindOf t q → r ≡ stateNumber (stateOf s o t q)) ⌝ }
-{
-    let row = STATES[own as usize];
-    row[parent as usize]
 }
 
 // The innermost frame of a part.
@@ -150,5 +133,5 @@ pub fn first_state(list: &[u16], part: Stretch) -> usize
     let Framed::Under(parent_kind, _, _) = frame_above(list, parent) else {
         return 0;
     };
-    state_of(own, parent_kind)
+    moves::state_of(own, parent_kind)
 }

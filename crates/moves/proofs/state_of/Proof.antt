@@ -1,10 +1,10 @@
 -- `state_of` meets its contract: the constant table is the definition's values in order.
 use Rattle.moves.specs.Moves.{stateOf}
 use Rattle.moves.specs.InnerEntries.{stateNumber}
 use Rattle.moves.proofs.TableLaws.{entry-of-kinds}
 use borrow.Author.Needs.{needs}
-use Rattle.step.proofs.state_of.Statement.{statement}
-use Rattle.step.proofs.state_of.Tie as tie
+use Rattle.moves.proofs.state_of.Statement.{statement}
+use Rattle.moves.proofs.state_of.Tie as tie
 
 mul-row : tie.Need-mul-row
 mul-row c = search needs
