@@ -4,4 +4,6 @@ pub mod TableLaws
 pub mod MoveLaws
 pub mod EntryLaws
 pub mod WordLaws
+pub mod AboveLaws
+pub mod NextStateLaws
 pub mod ReplaceLaws

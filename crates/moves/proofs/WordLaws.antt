@@ -94,7 +94,7 @@ module _ (w : List ℕ) (i : ℕ) where
   leading-all h p = sym (p ∙ ap (λ (x : List ℕ). take i w ++ x) (rw (drop-of-length-le w h) (unfold leading in refl)) ∙ append-nil (take i w))
 
 -- ---- a formula's word
-not-named : (o : Operator) (p q : Formula) → namesA (join o p q) ≡ false → (namesA p ≡ false) × (namesA q ≡ false)
+pub not-named : (o : Operator) (p q : Formula) → namesA (join o p q) ≡ false → (namesA p ≡ false) × (namesA q ≡ false)
 not-named o p q e = go (namesA p) (namesA q) refl refl e
   where
     go : (x y : Bool) → namesA p ≡ x → namesA q ≡ y → (x || y) ≡ false → (namesA p ≡ false) × (namesA q ≡ false)
@@ -102,7 +102,7 @@ not-named o p q e = go (namesA p) (namesA q) refl refl e
     go false true g h e = absurd (true≢false e)
     go false false g h e = (g, h)
 
-word-join : (o : Operator) (p q : Formula) (w : List ℕ) → word (join o p q) ++ w ≡ word p ++ (word q ++ (operatorSign o ∷ w))
+pub word-join : (o : Operator) (p q : Formula) (w : List ℕ) → word (join o p q) ++ w ≡ word p ++ (word q ++ (operatorSign o ∷ w))
 word-join o p q w = simp append-assoc
 
 leading-sign : (o : Operator) (w : List ℕ) → leading (operatorSign o ∷ w) ≡ operatorSign o ∷ leading w

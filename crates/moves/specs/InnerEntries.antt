@@ -1,7 +1,10 @@
 -- The numbers by which the code's tables are read, a table's entry, and what is asked of it. No contract of one of 01's calls cites this file.
+use mathlib.Core.Path.{_≡_}
 use mathlib.Core.Bool.{Bool, true, false, not, cond, _&&_}
+use mathlib.Core.Option.{some}
 use Prim.Native.Nat.{ℕ}
 use Rattle.moves.specs.Moves.{Formula, A, B, C, D, join, namesA, State, state1, state2, state3, state4, state5, state6, state7, state8, state9, Input, under, Move, replaceT, replaceTWithD}
+use Rattle.moves.specs.NextState.{stateAfter}
 
 -- a state's number
 abbrev pub stateNumber : State → ℕ
@@ -31,3 +34,7 @@ once B = false
 once C = false
 once D = false
 once (join o p q) = cond (namesA p) (once p && not (namesA q)) (once q)
+
+-- the number of the state after a step, by the numbers of state and input
+abbrev pub NextIs : ℕ → ℕ → ℕ → Type 0
+NextIs state input r = (x : State) (i : Input) (y : State) → state ≡ stateNumber x → input ≡ inputNumber i → stateAfter x i ≡ some y → r ≡ stateNumber y

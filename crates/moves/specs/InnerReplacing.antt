@@ -4,9 +4,7 @@ use mathlib.Core.List.{List}
 use Prim.Native.Nat.{ℕ, _+_, _≤_, _<_}
 use lib.ListN.{length, take}
 use Rattle.tree.specs.Tree.{mostNodes}
-use Rattle.moves.specs.Moves.{State, Input, moveOf}
-use Rattle.moves.specs.InnerEntries.{stateNumber, inputNumber, entryOf}
-use Rattle.moves.specs.InnerWords.{word, padded, spell, leading, replaced}
+use Rattle.moves.specs.InnerWords.{spell, leading, replaced}
 use Rattle.moves.specs.declared.Replacement.{Replacement}
 use Rattle.moves.specs.declared.Replacement.the-variants.{TooLong, Done}
 
@@ -22,9 +20,5 @@ ReplacedBy xs start TooLong out = mostNodes < length xs
 ReplacedBy xs start (Done nodes from) out = (from ≡ start) × Written xs nodes out
 
 -- a stretch is replaced by what a word stands for
-abbrev pub Replaced : List ℕ → List ℕ → List ℕ → List ℕ → ℕ → ℕ → Replacement → List ℕ → Type 0
-Replaced list from to w whole end = ReplacedBy (replaced list from to w whole end) (whole + length (spell list from to (leading w)))
-
--- the word is the move entry's for the state and the input that have these numbers
-pub record EntryReplaced (list from to : List ℕ) (state input whole end : ℕ) (r : Replacement) (out : List ℕ) : Type 0 where
-  pub by-entry : (x : State) (i : Input) → state ≡ stateNumber x → input ≡ inputNumber i → Replaced list from to (padded (word (entryOf (moveOf x) i))) whole end r out
+pub record Replaced (list from to w : List ℕ) (whole end : ℕ) (r : Replacement) (out : List ℕ) : Type 0 where
+  pub by-word : ReplacedBy (replaced list from to w whole end) (whole + length (spell list from to (leading w))) r out

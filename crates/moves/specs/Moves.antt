@@ -1,4 +1,4 @@
--- Document 01, "The lift": the states, the inputs, the move entries (Table 9) and the next states (Table 10); state 9 by request 2 of 02.
+-- Document 01, "The lift": the states, the inputs and the move entries (Table 9); state 9 by request 2 of 02.
 use mathlib.Core.Bool.{Bool, true, false, cond, _||_}
 use mathlib.Core.List.{List, [], _∷_, _++_}
 use Rattle.tree.specs.Tree.{Operator, union, difference, Tree, node}
@@ -71,18 +71,6 @@ moveOf state6 = replaceTWithD ((D U C) U (A − B)) ((A − (B U D)) U (C − D)
 moveOf state7 = replaceTWithD ((D U C) U (B − A)) (((B − D) − A) U (C − D)) ((B − A) U (D U C)) ((D − C) − (B − A))
 moveOf state8 = replaceTWithD ((D U (C − (C − B))) U (C − A)) (((C − D) − A) U ((C − (C − B)) − D)) ((C − A) U (D U (C − (C − B)))) ((D − (C − (C − B))) − (C − A))
 moveOf state9 = replaceTWithD ((C U D) − ((B − D) − A)) ((C − D) − (B − A)) ((C U D) − ((B − D) − A)) ((D − C) U ((D − (D − B)) − A))
-
--- "The state after a step, under inputs a b c d"; request 2: "The next state is 9 for a, b and c, and 7 for d"
-abbrev pub nextState : State → Input → State
-nextState state1 i = under i state1 state5 state1 state2
-nextState state2 i = under i state7 state4 state7 state9
-nextState state3 i = under i state6 state3 state6 state8
-nextState state4 i = under i state7 state4 state7 state9
-nextState state5 i = under i state6 state6 state6 state8
-nextState state6 i = under i state6 state6 state6 state8
-nextState state7 i = under i state7 state7 state7 state9
-nextState state8 i = under i state7 state7 state7 state9
-nextState state9 i = under i state9 state9 state9 state7
 
 -- a formula's value, of that of an operator and those of the parts
 abbrev pub value : {X : Type 0} → (Operator → X → X → X) → X → X → X → X → Formula → X

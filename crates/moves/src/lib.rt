@@ -1,17 +1,18 @@
-// The move entries of Table 9 and the next states of Table 10, and how a word's list is written by copying parts. Nothing here knows a list
-// of lifts.
+// The move entries of Table 9, the next state that an entry leads to, and how a word's list is written by copying parts. Nothing here knows a
+// list of lifts.
 ghost use mathlib.Core.Path.{_≡_};
 ghost use mathlib.Core.List.{List};
 ghost use Prim.Native.Nat.{ℕ, _+_, _*_, _≤_, _<_};
-ghost use lib.ListN.{length, take};
+ghost use lib.ListN.{length, take, drop};
 ghost use Rattle.tree.specs.Tree.{Operator, mostNodes};
 ghost use Rattle.tree.specs.Context.{Side};
 ghost use Rattle.tree.specs.InnerPart.{kindOf};
 ghost use Rattle.tree.specs.InnerWriting.{Wrote};
-ghost use Rattle.moves.specs.Moves.{State, stateOf, Input, moveOf, nextState};
-ghost use Rattle.moves.specs.InnerEntries.{stateNumber, inputNumber, entryOf};
-ghost use Rattle.moves.specs.InnerWords.{partOf, Within, Bounded, signFor, spell, leading, word, padded, mostSigns, replaced};
-ghost use Rattle.moves.specs.InnerReplacing.{Replaced, EntryReplaced};
+ghost use Rattle.moves.specs.Moves.{stateOf};
+ghost use Rattle.moves.specs.InnerEntries.{stateNumber, NextIs};
+ghost use Rattle.moves.specs.InnerWords.{partOf, Within, Bounded, signFor, spell, leading, EntryIs, mostSigns, replaced};
+ghost use Rattle.moves.specs.InnerAbove.{trailing, operatorNumber, frameKind, FrameAfter, AboveIs};
+ghost use Rattle.moves.specs.InnerReplacing.{Replaced};
 use tree::DIFFERENCE;
 use tree::MOST_NODES;
 use tree::UNION;
@@ -75,24 +76,23 @@ const MOVES: [[[u8; 13]; 4]; 9] = [
     ],
 ];
 
-// Table 10: the state after a step, a row for each state, under inputs a b c d.
-const NEXT: [[usize; 4]; 9] = [
-    [1, 5, 1, 2],
-    [7, 4, 7, 9],
-    [6, 3, 6, 8],
-    [7, 4, 7, 9],
-    [6, 6, 6, 8],
-    [6, 6, 6, 8],
-    [7, 7, 7, 9],
-    [7, 7, 7, 9],
-    [9, 9, 9, 7],
-];
-
 // The state by A's kind and its parent's: A U B, A - B, B U A, B - A, and the same with the parent's part for A and C for B.
 const STATES: [[usize; 4]; 4] = [[1, 5, 1, 2], [6, 3, 6, 8], [1, 5, 1, 2], [7, 4, 7, 9]];
 
 // States 1 to 4 replace T alone, the others T with D.
 pub const LAST_ALONE: usize = 4;
+
+// A frame in a word: its kind (`tree::Above`), and the index after its operator.
+struct WordFrame {
+    kind: u8,
+    end: usize,
+}
+
+// What stands above A in a word: the kinds of A's frame and of its parent's, 0 for one that is not there.
+struct AboveA {
+    own: u8,
+    parent: u8,
+}
 
 // What a replacement answers: its result is too long; or how many nodes the new tree has, and where A begins in it.
 pub enum Replacement {
@@ -101,20 +101,11 @@ pub enum Replacement {
 }
 
 // The word of a move entry.
-fn move_word(state: usize, input: usize) -> [u8; 13]
+pub fn move_word(state: usize, input: usize) -> [u8; 13]
     requires { ⌜ (1 ≤ state) × (state ≤ 9) × (input < 4) ⌝ }
-    ensures { λ r. ⌜ ((x : State) (i : Input) → state ≡ stateNumber x → input ≡ inputNumber i → r ≡ padded (word (entryOf (moveOf x) i))) ⌝ }
+    ensures { λ r. ⌜ EntryIs state input r ⌝ }
 {
     let row = MOVES[state - 1];
-    row[input]
-}
-
-// The state after a step, from the table.
-pub fn next_state(state: usize, input: usize) -> usize
-    requires { ⌜ (1 ≤ state) × (state ≤ 9) × (input < 4) ⌝ }
-    ensures { λ r. ⌜ ((x : State) (i : Input) → state ≡ stateNumber x → input ≡ inputNumber i → r ≡ stateNumber (nextState x i)) ⌝ }
-{
-    let row = NEXT[state - 1];
     row[input]
 }
 
@@ -227,7 +218,7 @@ fn word_width(from: [usize; 4], to: [usize; 4], word: &[u8]) -> usize
 
 // The place of A in a word: how many signs stand before it.
 fn place_of_a(word: &[u8]) -> usize
-    ensures { λ r. ⌜ (r ≤ length (now (word .entry))) × (take r (now (word .entry)) ≡ leading (now (word .entry))) ⌝ }
+    ensures { λ r. ⌜ (r ≤ length (now (word .entry))) × (take r (now (word .entry)) ≡ leading (now (word .entry))) × (drop (r + 1) (now (word .entry)) ≡ trailing (now (word .entry))) ⌝ }
 {
     let mut i = 0;
     while i < word.len() {
@@ -237,6 +228,87 @@ fn place_of_a(word: &[u8]) -> usize
         i += 1;
     }
     i
+}
+
+// An operator by its sign, 2 for any other sign.
+fn operator_number(sign: u8) -> u8
+    ensures { λ r. ⌜ r ≡ operatorNumber sign ⌝ }
+{
+    if sign == b'+' {
+        return 0;
+    }
+    if sign == b'-' {
+        return 1;
+    }
+    2
+}
+
+// The kind of an operator's frame above a part, by how many operands came after the part: it is the right operand if none did, else the left.
+fn frame_kind(operands: usize, operator: u8) -> u8
+    requires { ⌜ operator < 2 ⌝ }
+    ensures { λ r. ⌜ (r ≡ frameKind operands operator) × (r < 4) ⌝ }
+{
+    if operands == 0 {
+        2 + operator
+    } else {
+        operator
+    }
+}
+
+// The first frame above the part of a word that ends before `from`: that of the first operator that finds at most one operand after the part.
+fn frame_after(word: &[u8], from: usize) -> WordFrame
+    ensures { λ r. ⌜ FrameAfter (now (word .entry)) from r ⌝ }
+{
+    let mut operands: usize = 0;
+    let mut i = from;
+    while i < word.len() {
+        if part_of(word[i]) < 4 {
+            operands += 1;
+            i += 1;
+        } else {
+            let operator = operator_number(word[i]);
+            if 2 <= operator {
+                return WordFrame { kind: 0, end: i };
+            }
+            if operands < 2 {
+                let end = i + 1;
+                return WordFrame {
+                    kind: frame_kind(operands, operator),
+                    end,
+                };
+            }
+            operands -= 1;
+            i += 1;
+        }
+    }
+    WordFrame { kind: 0, end: i }
+}
+
+// What stands above A in a word in which A stands once, whichever word it is.
+fn above_a(word: &[u8]) -> AboveA
+    ensures { λ r. ⌜ AboveIs (now (word .entry)) r ⌝ }
+{
+    let own = frame_after(word, place_of_a(word) + 1);
+    let parent = frame_after(word, own.end);
+    AboveA {
+        own: own.kind,
+        parent: parent.kind,
+    }
+}
+
+// The state after a step, from the frames that the entry leaves above A: one and the input's in states 1 to 4, where T alone is replaced; two
+// in the others.
+pub fn next_state(entry: &[u8], state: usize, input: usize) -> usize
+    requires { ⌜ EntryIs state input (now entry) ⌝ }
+    requires { ⌜ input < 4 ⌝ }
+    ensures { λ r. ⌜ NextIs state input r ⌝ }
+{
+    let above = above_a(entry);
+    let above_t = input as u8;
+    if state <= LAST_ALONE {
+        return state_of(above.own, above_t);
+    }
+    state_of(above.own, above.parent)
 }
 
 // Writes the list with the entries from `whole` up to, not including, `end` replaced by what the word stands for.
@@ -260,7 +332,7 @@ fn write_replaced(
 }
 
 // The same where the result is not too long.
-fn replace(
+pub fn replace(
     list: &[u16],
     from: [usize; 4],
     to: [usize; 4],
@@ -283,25 +355,4 @@ fn replace(
     let start = whole + word_width(from, to, &word[..before]);
     write_replaced(list, from, to, word, whole, end, out);
     Replacement::Done { nodes, from: start }
-}
-
-// The same by a move entry.
-pub fn replace_by_move(
-    list: &[u16],
-    from: [usize; 4],
-    to: [usize; 4],
-    state: usize,
-    input: usize,
-    whole: usize,
-    end: usize,
-    out: &mut [u16],
-) -> Replacement
-    requires { ⌜ Within (now list) from to ⌝ }
-    requires { ⌜ (whole ≤ end) × (end ≤ length (now list)) ⌝ }
-    requires { ⌜ (length (now list) ≤ mostNodes) × (mostNodes ≤ length (now out)) ⌝ }
-    requires { ⌜ (1 ≤ state) × (state ≤ 9) × (input < 4) ⌝ }
-    ensures { λ r. ⌜ EntryReplaced (now (list .entry)) from to state input whole end r (now (out .exit)) ⌝ }
-{
-    let entry = move_word(state, input);
-    replace(list, from, to, &entry, whole, end, out)
 }

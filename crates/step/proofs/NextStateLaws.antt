@@ -1,45 +1,48 @@
--- "The state after a step" is the next-state table's: one computed test over the 64 shapes of three frames.
-use mathlib.Core.Path.{_≡_, sym, subst}
-use mathlib.Core.Bool.{Bool, true}
-use mathlib.Core.List.{List, [], _∷_}
-use lib.Dec.{T, eqb, eqb→eq}
-use Rattle.tree.specs.Tree.{Operator, Tree}
-use Rattle.tree.specs.Context.{Side, Frame, frame}
-use Rattle.moves.specs.Moves.{State, moveOf, stateOf, inputOf, nextState}
-use Rattle.moves.specs.InnerEntries.{stateNumber}
-use Rattle.moves.proofs.Cases.{allKinds, at-kind}
-use Rattle.step.specs.Step.{Outcome, stuck, moved, step, stepBy}
-use Rattle.step.specs.InnerStanding.{StateIs}
+-- Request 3: the state that the formula gives is "A's state in the tree after the step".
+use mathlib.Core.Path.{_≡_, refl, sym, ap, _∙_}
+use mathlib.Core.List.{List, [], _∷_, _++_, map, map-append, append-assoc}
+use native.Mathlib.Omega.{arith}
+use lib.ListN.{length}
+use Rattle.tree.specs.Tree.{Operator, union, difference, Tree, node}
+use Rattle.tree.specs.Context.{Side, left, right, Frame, frame}
+use Rattle.moves.specs.Moves.{Formula, Move, replaceT, replaceTWithD, moveOf, stateOf, inputOf, under, value, framesOf}
+use Rattle.moves.specs.NextState.{Kind, kind, kindOfFrame, kindOfInput, kindsAbove, stateBelow, stateIn, leftAbove, stateAfter}
+use Rattle.moves.proofs.NextStateLaws.{two-left, map-above}
+use Rattle.step.specs.Step.{moved, step, stepBy}
 
--- after the step A has this state
-abbrev has : List Frame → State → Bool
-has [] x = true
-has (f ∷ []) x = true
-has (frame s o b ∷ (frame t q c ∷ r)) x = eqb (stateNumber (stateOf s o t q)) (stateNumber x)
+-- the frames of an entry, and then others
+entry-kinds : (b c d : Tree) (p : Formula) (r : List Frame) → map kindOfFrame (framesOf b c d p ++ r) ≡ kindsAbove p ++ map kindOfFrame r
+entry-kinds b c d p r =
+    map-append kindOfFrame (framesOf b c d p) r
+    ∙ ap (λ (ks : List Kind). ks ++ map kindOfFrame r) (map-above kindOfFrame (λ s o q. frame s o (value node b b c d q)) p)
 
-abbrev leaves : Outcome → State → Bool
-leaves stuck x = true
-leaves (moved e) x = has e x
+input-frame : (u : Side) (w : Operator) → kind u w ≡ kindOfInput (inputOf u w)
+input-frame left union = refl
+input-frame left difference = refl
+input-frame right union = refl
+input-frame right difference = refl
 
-module _ (b c d : Tree) (r : List Frame) where
-  abbrev test : Side → Operator → Side → Operator → Side → Operator → Bool
-  test s o t q u w = leaves (stepBy (moveOf (stateOf s o t q)) b c (frame u w d ∷ r)) (nextState (stateOf s o t q) (inputOf u w))
+-- after a step there are the frames above A that its move leaves, and then those that were above T with D
+left-frames : (m : Move) (b c d : Tree) (u : Side) (w : Operator) (r e : List Frame) → stepBy m b c (frame u w d ∷ r) ≡ moved e
+    → map kindOfFrame e ≡ leftAbove m (inputOf u w) ++ map kindOfFrame r
+left-frames (replaceT p) b c d u w r e h =
+    let q : e ≡ framesOf b c c p ++ (frame u w d ∷ r) = cc in
+    ap (map kindOfFrame) q ∙ entry-kinds b c c p (frame u w d ∷ r)
+    ∙ ap (λ (k : Kind). kindsAbove p ++ (k ∷ map kindOfFrame r)) (input-frame u w)
+    ∙ sym (append-assoc (kindsAbove p) (kindOfInput (inputOf u w) ∷ []) (map kindOfFrame r))
+left-frames (replaceTWithD x y z v) b c d u w r e h =
+    let q : e ≡ framesOf b c d (under (inputOf u w) x y z v) ++ r = cc in
+    ap (map kindOfFrame) q ∙ entry-kinds b c d (under (inputOf u w) x y z v) r
 
-  table : (s : Side) (o : Operator) (t : Side) (q : Operator) (u : Side) (w : Operator) → T (test s o t q u w)
-  table s o t q u w =
-      at-kind (λ u w. test s o t q u w)
-      (at-kind (λ t q. allKinds (λ u w. test s o t q u w))
-      (at-kind (λ s o. allKinds (λ t q. allKinds (λ u w. test s o t q u w))) tt s o) t q) u w
+first-two : (xs ys : List Kind) → length xs ≡ 2 → stateBelow (xs ++ ys) ≡ stateBelow xs
+first-two [] ys h = absurd (omega arith)
+first-two (k ∷ []) ys h = absurd (omega arith)
+first-two (kind s o ∷ (kind t q ∷ xs)) ys h = refl
 
-has-state : (e : List Frame) (x : State) → T (has e x) → StateIs e (stateNumber x)
-has-state [] x t = tt
-has-state (f ∷ []) x t = tt
-has-state (frame s o b ∷ (frame t q c ∷ r)) x h = sym (eqb→eq (stateNumber (stateOf s o t q)) (stateNumber x) h)
-
--- "The state after a step, under inputs a b c d": in all 36 cases, nine states by four inputs, the state that Table 10 gives is A's state in the
--- tree after the step, where A then has a grandparent
+-- "A's state in the tree after the step"; without a D it has none then
 pub next-state : (s : Side) (o : Operator) (t : Side) (q : Operator) (u : Side) (w : Operator) (b c d : Tree) (r e : List Frame)
-    → step (frame s o b ∷ (frame t q c ∷ (frame u w d ∷ r))) ≡ moved e → StateIs e (stateNumber (nextState (stateOf s o t q) (inputOf u w)))
+    → step (frame s o b ∷ (frame t q c ∷ (frame u w d ∷ r))) ≡ moved e → stateIn e ≡ stateAfter (stateOf s o t q) (inputOf u w)
 unfolding step
 next-state s o t q u w b c d r e h =
-    has-state e (nextState (stateOf s o t q) (inputOf u w)) (subst (λ (x : Outcome). T (leaves x (nextState (stateOf s o t q) (inputOf u w)))) h (table b c d r s o t q u w))
+    let x = stateOf s o t q in
+    ap stateBelow (left-frames (moveOf x) b c d u w r e h) ∙ first-two (leftAbove (moveOf x) (inputOf u w)) (map kindOfFrame r) (two-left x (inputOf u w))

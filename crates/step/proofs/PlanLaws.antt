@@ -1,12 +1,14 @@
 -- What the frames that were looked up say of the step.
-use mathlib.Core.Path.{_≡_, refl, sym, ap, subst, _∙_}
+use mathlib.Core.Path.{_≡_, refl, sym, ap, _∙_}
+use mathlib.Core.Option.{some}
 use mathlib.Core.List.{List, [], _∷_}
 use Prim.Native.Nat.{ℕ, _≤_, _<_}
 use native.Mathlib.Omega.{arith}
 use lib.ListN.{length}
 use Rattle.tree.specs.Tree.{Operator, Tree, node}
 use Rattle.tree.specs.Context.{Side, Frame, frame, sided}
-use Rattle.moves.specs.Moves.{State, Input, inputA, moveOf, stateOf, inputOf, nextState}
+use Rattle.moves.specs.Moves.{State, Input, inputA, moveOf, stateOf, inputOf}
+use Rattle.moves.specs.NextState.{stateIn, stateAfter}
 use Rattle.moves.specs.InnerEntries.{stateNumber, inputNumber}
 use Rattle.moves.proofs.TableLaws.{kind-input}
 use Rattle.step.specs.Step.{stuck, moved, step, stepBy}
@@ -27,10 +29,17 @@ pub no-parent : (c : List Frame) → c ≡ [] → step c ≡ stuck
 no-parent c e = ap step e ∙ (unfold step in refl)
 
 -- a part at level 0 or 1 has no state
-short-state : (e : List Frame) (s : ℕ) → length e ≤ 1 → StateIs e s
-short-state [] s h = tt
-short-state (f ∷ []) s h = tt
-short-state (f ∷ (g ∷ r)) s h = absurd (omega arith)
+pub no-state : (e : List Frame) → length e ≤ 1 → (y : State) → stateIn e ≡ some y → ⊥
+no-state [] h y q = let z : _≡_ {A = ℕ} 0 1 = cc in omega arith
+no-state (f ∷ []) h y q = let z : _≡_ {A = ℕ} 0 1 = cc in omega arith
+no-state (f ∷ (g ∷ r)) h y q = omega arith
+
+pub two-frames : {c : List Frame} {n : ℕ} (s : Side) (o : Operator) (b : Tree) (t : Side) (q : Operator) (d : Tree) (r : List Frame)
+    → c ≡ frame s o b ∷ (frame t q d ∷ r) → n ≡ stateNumber (stateOf s o t q) → StateIs c n
+two-frames s o b t q d r e h y k =
+    let z : some (stateOf s o t q) ≡ some y = sym (ap stateIn e) ∙ k in
+    let w : stateOf s o t q ≡ y = cc in
+    h ∙ ap stateNumber w
 
 module _ {l : List ℕ} {a : Tree} {c : List Frame} {k₁ : ℕ} {atB atP : Stretch} (G : UnderIs l a c k₁ atB atP) where
   pub no-grandparent : G .rest ≡ [] → step c ≡ stuck
@@ -52,11 +61,11 @@ module _ {l : List ℕ} {a : Tree} {c : List Frame} {k₁ : ℕ} {atB atP : Stre
 
     module _ (n : Node) (S : StateIs c (n .state)) where
       state-is : n .state ≡ stateNumber x
-      state-is = subst (λ (c : List Frame). StateIs c (n .state)) two S
+      state-is = S x (ap stateIn two)
 
       -- T alone is replaced, whatever is above it
       t-here : {input : ℕ} (i : Input) → input ≡ inputNumber i → n .state ≤ 4
-          → ((e : List Frame) → step c ≡ moved e → StateIs e (stateNumber (nextState x i))) → ReplaceIs l n c input atB atC atC atT
+          → ((e : List Frame) → step c ≡ moved e → (y : State) → stateIn e ≡ some y → stateAfter x i ≡ some y) → ReplaceIs l n c input atB atC atC atT
       t-here i q h s =
           let m = step-is refl ∙ by-t x i (G .sibling) (H .sibling) (H .rest) (omega (arith, state-is)) in
           record {
@@ -84,7 +93,7 @@ module _ {l : List ℕ} {a : Tree} {c : List Frame} {k₁ : ℕ} {atB atP : Stre
       module _ (e : H .rest ≡ []) where
         pub t-without-d : n .state ≤ 4 → ReplaceIs l n c 0 atB atC atC atT
         t-without-d h = t-here inputA refl h
-            (λ y m. short-state y _ (omega (arith, step-level c y m, ap length (two ∙ ap with-two e))))
+            (λ f m y s. absurd (no-state f (omega (arith, step-level c f m, ap length (two ∙ ap with-two e))) y s))
 
         pub stuck-without-d : 4 < n .state → step c ≡ stuck
         stuck-without-d h = step-is e ∙ no-d x (G .sibling) (H .sibling) (omega (arith, state-is))
@@ -94,10 +103,10 @@ module _ {l : List ℕ} {a : Tree} {c : List Frame} {k₁ : ℕ} {atB atP : Stre
         input-is : k₃ ≡ inputNumber (inputOf (K .side) (K .operator))
         input-is = K .kind ∙ kind-input (K .side) (K .operator)
 
-        state-after : (e : List Frame) → step c ≡ moved e → StateIs e (stateNumber (nextState x (inputOf (K .side) (K .operator))))
-        state-after e m =
-            next-state (G .side) (G .operator) (H .side) (H .operator) (K .side) (K .operator) (G .sibling) (H .sibling) (K .sibling) (K .rest) e
-            (sym (ap step (two ∙ ap with-two (K .is))) ∙ m)
+        state-after : (e : List Frame) → step c ≡ moved e → (y : State) → stateIn e ≡ some y → stateAfter x (inputOf (K .side) (K .operator)) ≡ some y
+        state-after e m y s =
+            sym (next-state (G .side) (G .operator) (H .side) (H .operator) (K .side) (K .operator) (G .sibling) (H .sibling) (K .sibling) (K .rest) e
+            (sym (ap step (two ∙ ap with-two (K .is))) ∙ m)) ∙ s
 
         pub t-alone : n .state ≤ 4 → ReplaceIs l n c k₃ atB atC atC atT
         t-alone h = t-here (inputOf (K .side) (K .operator)) input-is h state-after

@@ -9,16 +9,16 @@ use Rattle.tree.specs.Context.{Frame, plug, before}
 use Rattle.tree.proofs.ContextLaws.{after, postfix-plug, plug-append, size-plug}
 use Rattle.tree.proofs.TreeLaws.{postfix-length}
 use Rattle.tree.proofs.PartLaws.{part-take, part-drop, part-own}
-use Rattle.moves.specs.Moves.{Formula, State, Input, moveOf, nextState, value, framesOf}
-use Rattle.moves.specs.InnerWords.{word, padded, rowSigns, blank, Range, Within, spell, leading, replaced}
-use Rattle.moves.specs.InnerEntries.{stateNumber, inputNumber, entryOf}
-use Rattle.moves.specs.InnerReplacing.{Written, ReplacedBy, EntryReplaced}
+use Rattle.moves.specs.Moves.{Formula, moveOf, value, framesOf}
+use Rattle.moves.specs.InnerWords.{word, padded, EntryIs, rowSigns, blank, Range, Within, spell, leading, replaced}
+use Rattle.moves.specs.InnerEntries.{entryOf, NextIs}
+use Rattle.moves.specs.InnerReplacing.{Written, ReplacedBy, Replaced}
 use Rattle.moves.specs.declared.Replacement.{Replacement}
 use Rattle.moves.specs.declared.Replacement.the-variants.{TooLong, Done}
 use Rattle.moves.proofs.MoveLaws.{plug-frames, once-entry}
 use Rattle.moves.proofs.WordLaws.{Parts, spell-word, spell-padded, before-append, before-frames}
 use Rattle.moves.proofs.TableLaws.{state-range, input-range}
-use Rattle.step.specs.InnerStanding.{StateIs, Standing}
+use Rattle.step.specs.InnerStanding.{Standing}
 use Rattle.step.specs.InnerSteps.{ReplaceIs, StepTooLong, StepDone}
 use Rattle.step.specs.declared.Node.{Node}
 use Rattle.step.specs.declared.Stretch.{Stretch}
@@ -70,11 +70,12 @@ module _ {l : List ℕ} {n : Node} {c : List Frame} {input : ℕ} {atB atC atD w
         ∙ sym (length-append (before (H .r)) (before e)) ∙ ap length (sym (before-append e (H .r)))
 
     -- what the replacement answered of the new list
-    module _ {m : Replacement} {out : List ℕ} (R : EntryReplaced l from to (n .state) input (whole .from) (whole .to) m out) where
+    module _ {w : List ℕ} {m : Replacement} {out : List ℕ} (W : EntryIs (n .state) input w) (R : Replaced l from to w (whole .from) (whole .to) m out) where
       answered : ReplacedBy (postfix (plug a (e ++ H .r))) (length (before (e ++ H .r))) m out
       answered =
           subst (λ (xs : List ℕ). ReplacedBy xs (length (before (e ++ H .r))) m out) new-list
-          (subst (λ (k : ℕ). ReplacedBy (replaced l from to (padded (word p)) (whole .from) (whole .to)) k m out) new-start (R .by-entry (H .at-state) (H .at-input) (H .state-is) (H .input-is)))
+          (subst (λ (k : ℕ). ReplacedBy (replaced l from to (padded (word p)) (whole .from) (whole .to)) k m out) new-start
+          (subst (λ (w : List ℕ). Replaced l from to w (whole .from) (whole .to) m out) (W (H .at-state) (H .at-input) (H .state-is) (H .input-is)) R .by-word))
 
       pub too-long : m ≡ TooLong → StepTooLong a c
       too-long q = let h = subst (λ (m : Replacement). ReplacedBy (postfix (plug a (e ++ H .r))) (length (before (e ++ H .r))) m out) q answered in
@@ -88,8 +89,7 @@ module _ {l : List ℕ} {n : Node} {c : List Frame} {input : ℕ} {atB atC atD w
         pub ends-within : start + (n .to - n .from) ≤ mostNodes
         ends-within = omega (arith, S .part .ends, new .0, new .1 .length-is, new .1 .short, size-plug a (e ++ H .r), postfix-length (plug a (e ++ H .r)))
 
-        pub step-done : (s : ℕ) → ((x : State) (i : Input) → n .state ≡ stateNumber x → input ≡ inputNumber i → s ≡ stateNumber (nextState x i))
-            → StepDone a c nodes (record { from = start; to = start + (n .to - n .from); state = s }) out
+        pub step-done : (s : ℕ) → NextIs (n .state) input s → StepDone a c nodes (record { from = start; to = start + (n .to - n .from); state = s }) out
         step-done s t = record {
           e = e ++ H .r;
           moves = H .moves;
@@ -97,6 +97,6 @@ module _ {l : List ℕ} {n : Node} {c : List Frame} {input : ℕ} {atB atC atD w
           short = new .1 .short;
           stands = record {
             part = record { whole = new .1 .entries; begins = new .0; ends = omega (arith, S .part .ends) };
-            state = subst (StateIs (e ++ H .r)) (sym (t (H .at-state) (H .at-input) (H .state-is) (H .input-is))) (H .next);
+            state = λ y h. t (H .at-state) (H .at-input) y (H .state-is) (H .input-is) (H .next y h);
           };
         }

@@ -1,19 +1,19 @@
 -- A node as the code's functions see it: its part's entries and its state. No contract of one of 01's calls cites this file.
 use mathlib.Core.Path.{_≡_}
-use mathlib.Core.List.{List, [], _∷_}
+use mathlib.Core.Option.{some}
+use mathlib.Core.List.{List}
 use Prim.Native.Nat.{ℕ}
 use Rattle.tree.specs.Tree.{Tree}
-use Rattle.tree.specs.Context.{Frame, frame}
+use Rattle.tree.specs.Context.{Frame}
 use Rattle.tree.specs.InnerPart.{Part}
-use Rattle.moves.specs.Moves.{stateOf}
+use Rattle.moves.specs.Moves.{State}
+use Rattle.moves.specs.NextState.{stateIn}
 use Rattle.moves.specs.InnerEntries.{stateNumber}
 use Rattle.step.specs.declared.Node.{Node}
 
--- n is the number of A's state, where A has a grandparent
+-- n is the number of A's state, where A has one
 abbrev pub StateIs : List Frame → ℕ → Type 0
-StateIs [] n = Unit {0}
-StateIs (f ∷ []) n = Unit {0}
-StateIs (frame s o b ∷ (frame t q c ∷ r)) n = n ≡ stateNumber (stateOf s o t q)
+StateIs c n = (y : State) → stateIn c ≡ some y → n ≡ stateNumber y
 
 -- the node is the part a with the context c in the list of a tree
 pub record Standing (list : List ℕ) (n : Node) (a : Tree) (c : List Frame) : Type 0 where

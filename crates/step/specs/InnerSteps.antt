@@ -1,16 +1,18 @@
 -- What the functions for one step answer: a part's frame, the plan of a step, and the step itself. No contract of one of 01's calls cites this file.
 use mathlib.Core.Path.{_≡_}
+use mathlib.Core.Option.{some}
 use mathlib.Core.List.{List, [], _∷_, _++_}
 use Prim.Native.Nat.{ℕ, _≤_, _<_}
 use lib.ListN.{take}
 use Rattle.tree.specs.Tree.{Operator, Tree, node, size, postfix, mostNodes}
 use Rattle.tree.specs.Context.{Side, Frame, frame, sided, plug}
 use Rattle.tree.specs.InnerPart.{Part, kindOf}
-use Rattle.moves.specs.Moves.{State, Input, moveOf, nextState, framesOf}
+use Rattle.moves.specs.Moves.{State, Input, moveOf, framesOf}
+use Rattle.moves.specs.NextState.{stateIn, stateAfter}
 use Rattle.moves.specs.InnerWords.{cut, Range}
 use Rattle.moves.specs.InnerEntries.{stateNumber, inputNumber, entryOf}
 use Rattle.step.specs.Step.{stuck, moved, step}
-use Rattle.step.specs.InnerStanding.{StateIs, Standing}
+use Rattle.step.specs.InnerStanding.{Standing}
 use Rattle.step.specs.declared.Node.{Node}
 use Rattle.step.specs.declared.Plan.{Plan}
 use Rattle.step.specs.declared.Plan.the-variants as plan
@@ -37,7 +39,7 @@ abbrev pub FrameIs : List ℕ → Tree → List Frame → Framed → Type 0
 FrameIs list a c framed.Root = c ≡ []
 FrameIs list a c (framed.Under k atB atP) = UnderIs list a c k atB atP
 
--- the step replaces the part x, whose context is r, by an entry over B, C and D, whose stretches are given, and A then has the table's next state
+-- the step replaces the part x, whose context is r, by an entry over B, C and D, whose stretches are given, and A's state is then the formula's
 pub record ReplaceIs (list : List ℕ) (n : Node) (c : List Frame) (input : ℕ) (atB atC atD whole : Stretch) : Type 0 where
   pub at-state : State
   pub at-input : Input
@@ -56,7 +58,7 @@ pub record ReplaceIs (list : List ℕ) (n : Node) (c : List Frame) (input : ℕ)
   pub cut-d : cut list (atD .from) (atD .to) ≡ postfix d
   pub stretch : Part list (whole .from) (whole .to) x r
   pub moves : step c ≡ moved (framesOf b c′ d (entryOf (moveOf at-state) at-input) ++ r)
-  pub next : StateIs (framesOf b c′ d (entryOf (moveOf at-state) at-input) ++ r) (stateNumber (nextState at-state at-input))
+  pub next : (y : State) → stateIn (framesOf b c′ d (entryOf (moveOf at-state) at-input) ++ r) ≡ some y → stateAfter at-state at-input ≡ some y
 
 -- what a plan says of the step of a node with the context c
 abbrev pub Planned : List ℕ → Node → List Frame → Plan → Type 0

@@ -98,7 +98,7 @@ fn plan_step(list: &[u16], node: Node) -> Plan
     Plan::Replace(input, b, c, c, t)
 }
 
-// One step of a lift, written to `out`. The node's next state is read from the table.
+// One step of a lift, written to `out`. The node's next state is worked out from the entry.
 pub fn step(list: &[u16], node: Node, out: &mut [u16]) -> Stepped
     requires { ⌜ Stands (now list) node ⌝ }
     requires { ⌜ (length (now list) ≤ mostNodes) × (mostNodes ≤ length (now out)) ⌝ }
@@ -109,13 +109,14 @@ pub fn step(list: &[u16], node: Node, out: &mut [u16]) -> Stepped
     };
     let from = [node.from, b.from, c.from, d.from];
     let to = [node.to, b.to, c.to, d.to];
-    match moves::replace_by_move(list, from, to, node.state, input, old.from, old.to, out) {
+    let entry = moves::move_word(node.state, input);
+    match moves::replace(list, from, to, &entry, old.from, old.to, out) {
         Replacement::TooLong => Stepped::TooLong,
         Replacement::Done { nodes, from: start } => {
             let next = Node {
                 from: start,
                 to: start + (node.to - node.from),
-                state: moves::next_state(node.state, input),
+                state: moves::next_state(&entry, node.state, input),
             };
             Stepped::Done(nodes, next)
         }

@@ -26,12 +26,8 @@ add-nodes-2 c = search needs
 returns : tie.Need-returns
 returns c = let g = c .before .before .before .before .before in
     let v = g .args in
-    omega (
-      arith,
-      c .if1 .taken,
-      c .before .word-width .ensures .0 (v .list .now) (g .pre .0),
-      replaced-length (v .list .now) (v .from) (v .to) (v .word .now) (v .whole) (v .end) (g .pre .1 .0 .0) (g .pre .1 .0 .1),
-    )
+    let long = replaced-length (v .list .now) (v .from) (v .to) (v .word .now) (v .whole) (v .end) (g .pre .1 .0 .0) (g .pre .1 .0 .1) in
+    record { by-word = omega (arith, c .if1 .taken, c .before .word-width .ensures .0 (v .list .now) (g .pre .0), long) }
 
 place-of-a-requires : tie.Need-place-of-a-requires
 place-of-a-requires c κs = search needs
@@ -79,10 +75,13 @@ returns-2 c =
     let g = c .before .before .before .before .before .before .before .before .before .before .before .before in
     let v = g .args in
     let long = replaced-length (v .list .now) (v .from) (v .to) (v .word .now) (v .whole) (v .end) (g .pre .1 .0 .0) (g .pre .1 .0 .1) in
-    let same = word-width .ensures .0 (v .list .now) (g .pre .0) in (
-      ap (λ (n : ℕ). v .whole + n) (word-width2 .ensures .0 (v .list .now) (g .pre .0) ∙ ap (λ (w : List ℕ). length (spell (v .list .now) (v .from) (v .to) w)) (place-of-a .ensures .1)),
-      written (c .before .before .write-replaced .ensures) _ (omega (arith, same, long)) (if1 .left) (g .pre .1 .1 .0 .1),
-    )
+    let same = word-width .ensures .0 (v .list .now) (g .pre .0) in
+    record {
+      by-word = (
+        ap (λ (n : ℕ). v .whole + n) (word-width2 .ensures .0 (v .list .now) (g .pre .0) ∙ ap (λ (w : List ℕ). length (spell (v .list .now) (v .from) (v .to) w)) (place-of-a .ensures .1)),
+        written (c .before .before .write-replaced .ensures) _ (omega (arith, same, long)) (if1 .left) (g .pre .1 .1 .0 .1),
+      );
+    }
 
 pub replace-spec : {M : Type 1} → statement M
 replace-spec =

@@ -34,13 +34,21 @@ returns c = λ a k S.
     let g = c .before .before .before .before .before .args in
     subst (Planned (g .list .now) (g .node) k) (c .enum-told .given .1) (c .before .before .plan-step .ensures a k S)
 
-replace-by-move-requires : tie.Need-replace-by-move-requires
-replace-by-move-requires c κs =
-    let pre = c .before .before .before .before .before .before .before .pre in
+move-word-requires : tie.Need-move-word-requires
+move-word-requires c κs =
+    let L = c .before .before .before .before .before .before .pre .0 in
+    in-table (plan c (L .0) (L .1) (L .2))
+
+slice-aggregate-replace : tie.Need-slice-aggregate-replace
+slice-aggregate-replace c = search needs
+
+replace-requires : tie.Need-replace-requires
+replace-requires c κs =
+    let pre = c .before .before .before .before .before .before .before .before .before .pre in
     let L = pre .0 in
-    let H = plan (c .before) (L .0) (L .1) (L .2) in
+    let H = plan (c .before .before .before) (L .0) (L .1) (L .2) in
     let w = part-range (H .stretch) in
-    (within H (part-range (L .2 .part)), ((w .low, w .high), (pre .1, in-table H)))
+    (within H (part-range (L .2 .part)), ((w .low, w .high), (pre .1, search needs)))
 
 enum-told-2 : tie.Need-enum-told-2
 enum-told-2 c = search needs
@@ -48,39 +56,47 @@ enum-told-2 c = search needs
 enum-known-nodes : tie.Need-enum-known-nodes
 enum-known-nodes c = search needs
 
-sub-t19 : tie.Need-sub-t19
-sub-t19 c =
-    let L = c .before .before .before .before .before .before .before .before .before .before .before .before .before .before .pre .0 in
+sub-t23 : tie.Need-sub-t23
+sub-t23 c =
+    let L = c .before .before .before .before .before .before .before .before .before .before .before .before .before .before .before .before .pre .0 in
     omega (arith, L .2 .part .ends)
 
-add-t20 : tie.Need-add-t20
-add-t20 c =
-    let L = c .before .before .before .before .before .before .before .before .before .before .before .before .before .before .pre .0 in
-    let made = c .before .before .before .before .before .before .replace-by-move in
-    let H = plan (c .before .before .before .before .before .before .before .before) (L .0) (L .1) (L .2) in
-    omega (arith, ends-within H (L .2) (made .ensures) (c .before .before .nodes .given .1))
+add-t24 : tie.Need-add-t24
+add-t24 c =
+    let L = c .before .before .before .before .before .before .before .before .before .before .before .before .before .before .before .before .pre .0 in
+    let word = c .before .before .before .before .before .before .before .before .before .move-word in
+    let made = c .before .before .before .before .before .before .replace in
+    let H = plan (c .before .before .before .before .before .before .before .before .before .before) (L .0) (L .1) (L .2) in
+    omega (arith, ends-within H (L .2) (word .ensures) (made .ensures) (c .before .before .nodes .given .1))
+
+slice-aggregate-next-state : tie.Need-slice-aggregate-next-state
+slice-aggregate-next-state c = search needs
 
 next-state-requires : tie.Need-next-state-requires
 next-state-requires c κs =
-    let L = c .before .before .before .before .before .before .before .before .before .before .before .before .before .before .pre .0 in
-    in-table (plan (c .before .before .before .before .before .before .before .before) (L .0) (L .1) (L .2))
+    let L = c .before .before .before .before .before .before .before .before .before .before .before .before .before .before .before .before .before .pre .0 in
+    let word = c .before .before .before .before .before .before .before .before .before .before .move-word in
+    let H = plan (c .before .before .before .before .before .before .before .before .before .before .before) (L .0) (L .1) (L .2) in
+    (word .ensures, in-table H .2)
 
 same-length : tie.Need-same-length
 same-length c = search needs
 
 returns-2 : tie.Need-returns-2
 returns-2 c = λ a k S.
-    let made = c .before .before .before .before .replace-by-move in
-    too-long (plan (c .before .before .before .before .before .before) a k S) S (made .ensures) (c .enum-told2 .given .1)
+    let word = c .before .before .before .before .before .before .before .move-word in
+    let made = c .before .before .before .before .replace in
+    too-long (plan (c .before .before .before .before .before .before .before .before) a k S) S (word .ensures) (made .ensures) (c .enum-told2 .given .1)
 
 same-length-2 : tie.Need-same-length-2
 same-length-2 c = search needs
 
 returns-3 : tie.Need-returns-3
 returns-3 c = λ a k S.
-    let made = c .before .before .before .before .before .before .before .replace-by-move in
-    let H = plan (c .before .before .before .before .before .before .before .before .before) a k S in
-    step-done H S (made .ensures) (c .before .before .before .nodes .given .1) (c .next-state .result) (c .next-state .ensures)
+    let word = c .before .before .before .before .before .before .before .before .before .before .before .move-word in
+    let made = c .before .before .before .before .before .before .before .before .replace in
+    let H = plan (c .before .before .before .before .before .before .before .before .before .before .before .before) a k S in
+    step-done H S (word .ensures) (made .ensures) (c .before .before .before .before .nodes .given .1) (c .next-state .result) (c .next-state .ensures)
 
 pub step-spec : {M : Type 1} → statement M
 step-spec =
@@ -90,11 +106,14 @@ step-spec =
     enum-known-input
     enum-told
     returns
-    replace-by-move-requires
+    move-word-requires
+    slice-aggregate-replace
+    replace-requires
     enum-told-2
     enum-known-nodes
-    sub-t19
-    add-t20
+    sub-t23
+    add-t24
+    slice-aggregate-next-state
     next-state-requires
     same-length
     returns-2
