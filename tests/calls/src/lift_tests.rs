@@ -40,8 +40,20 @@ fn meaning(tree: &[u16], groups: &[u16]) -> [u64; 4] {
     table(&tree, &[1, 2, 3, 4, 5, 6, 7, 8])
 }
 
+/// The tree and A's position after as many lifts of one level, each of which sees A's state in the tree that it is given.
+fn single_lifts(input: &Input) -> Result<(Vec<u16>, usize), String> {
+    let (mut tree, mut at) = (input.tree.clone(), input.position);
+    for level in 1..=input.levels {
+        let mut out = filled(TREE_BUFFER);
+        let [number, length, position, _] = library::lift(&tree, at, 1, &mut out).map(|number| number as usize);
+        ensure(number == 0, &format!("single lift {level} is refused with {number}"))?;
+        (tree, at) = (out[..length].to_vec(), position);
+    }
+    Ok((tree, at))
+}
+
 /// What must hold of every done lift, whatever its steps: looks as many as levels, A whole and so many levels higher,
-/// and an equivalent tree.
+/// an equivalent tree, and the same tree as by single lifts.
 fn done_lift(input: &Input, answer: &LiftAnswer, out: &[u16]) -> Result<(), String> {
     let [_, length, position, looks] = answer.map(|number| number as usize);
     let lifted = &out[..length];
@@ -49,7 +61,10 @@ fn done_lift(input: &Input, answer: &LiftAnswer, out: &[u16]) -> Result<(), Stri
     same("looks", &looks, &input.levels)?;
     same("A and its level", &part(lifted, position), &(given_part, level - input.levels))?;
     let groups = groups(&input.tree);
-    same("table", &meaning(lifted, &groups), &meaning(&input.tree, &groups))
+    same("table", &meaning(lifted, &groups), &meaning(&input.tree, &groups))?;
+    let (tree, at) = single_lifts(input)?;
+    same("nodes and position by single lifts", &(tree.len(), at), &(length, position))?;
+    same_buffer(&tree, lifted)
 }
 
 /// Calls the library and the reference alike and compares everything.

@@ -46,6 +46,7 @@ fn least_counts(sheets: usize) -> Vec<(String, usize)> {
         for input in ['a', 'b', 'c', 'd'] {
             least.push(per_thousand(Trait::StepAtLevel3(state, input), 2));
             least.push(per_thousand(Trait::StepDeeper(state, input), 4));
+            least.push(per_thousand(Trait::StepFollowed(state, input), 3));
         }
     }
     least

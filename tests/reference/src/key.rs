@@ -29,6 +29,8 @@ pub struct Lifts {
     pub lines: Vec<(usize, usize, usize)>,
     /// The steps of those that were done.
     pub steps: Vec<Step>,
+    /// Those of these steps that another of the same lift follows, in the state that they lead to.
+    pub followed_steps: Vec<Step>,
     /// The steps that were refused with 15.
     pub refused_steps: Vec<Step>,
 }
@@ -40,6 +42,7 @@ pub fn lifts(sheet: &Sheet) -> Lifts {
         lifts.lines.push(match lift_noting_steps(&lifts.tree, position, levels, &mut steps) {
             Ok(lifted) => {
                 lifts.tree = lifted.tree;
+                lifts.followed_steps.extend_from_slice(&steps[..steps.len() - 1]);
                 lifts.steps.extend(steps);
                 (0, lifted.position, lifted.looks)
             }

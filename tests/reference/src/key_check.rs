@@ -26,6 +26,8 @@ pub enum Trait {
     StepAtLevel2(usize),
     StepAtLevel3(usize, char),
     StepDeeper(usize, char),
+    /// Steps that another of the same lift follows.
+    StepFollowed(usize, char),
     /// A step refused with 15, by its level and state.
     StepRefused(usize, usize),
 }
@@ -132,6 +134,8 @@ fn step_trait(step: &Step) -> Trait {
 
 fn lift_traits(lifts: &Lifts) -> Vec<Trait> {
     let mut traits: Vec<Trait> = lifts.steps.iter().map(step_trait).collect();
+    let followed = |step: &Step| step.input.map(|input| Trait::StepFollowed(step.state, input));
+    traits.extend(lifts.followed_steps.iter().filter_map(followed));
     traits.extend(lifts.refused_steps.iter().map(|step| Trait::StepRefused(step.level, step.state)));
     let line = |&(number, _, _): &_| if number == 0 { Trait::LiftDone } else { Trait::LiftRefused(number) };
     traits.extend(lifts.lines.iter().map(line));
