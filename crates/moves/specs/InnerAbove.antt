@@ -2,14 +2,14 @@
 use mathlib.Core.Path.{_≡_}
 use mathlib.Core.Bool.{cond}
 use mathlib.Core.List.{List, [], _∷_, _++_}
-use Prim.Native.Nat.{ℕ, _+_, _-_, _<_}
+use Prim.Native.Nat.{ℕ, _+_, _-_, _≤_, _<_}
 use lib.Dec.{T, eqb, leb, ltb}
-use lib.ListN.{getD, drop, replicate}
+use lib.ListN.{length, getD, take, drop, replicate}
 use Rattle.tree.specs.Tree.{union, difference}
 use Rattle.tree.specs.InnerPart.{kindOf}
 use Rattle.moves.specs.Moves.{Formula, above}
 use Rattle.moves.specs.InnerEntries.{once}
-use Rattle.moves.specs.InnerWords.{firstPart, operatorSign, blank, word, partOf}
+use Rattle.moves.specs.InnerWords.{firstPart, operatorSign, blank, word, partOf, leading}
 use Rattle.moves.specs.declared.WordFrame.{WordFrame}
 use Rattle.moves.specs.declared.AboveA.{AboveA}
 
@@ -17,6 +17,12 @@ use Rattle.moves.specs.declared.AboveA.{AboveA}
 unfoldable pub trailing : List ℕ → List ℕ
 trailing [] = []
 trailing (s ∷ w) = cond (eqb s firstPart) w (trailing w)
+
+-- r is the place of A in the word: so many signs stand before it, the others come after it
+pub record PlaceIs (w : List ℕ) (r : ℕ) : Type 0 where
+  pub within : r ≤ length w
+  pub signs-before : take r w ≡ leading w
+  pub signs-after : drop (r + 1) w ≡ trailing w
 
 -- an operator by its sign, 2 for any other sign
 abbrev pub operatorNumber : ℕ → ℕ

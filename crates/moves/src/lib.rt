@@ -3,15 +3,15 @@
 ghost use mathlib.Core.Path.{_≡_};
 ghost use mathlib.Core.List.{List};
 ghost use Prim.Native.Nat.{ℕ, _+_, _*_, _≤_, _<_};
-ghost use lib.ListN.{length, take, drop};
+ghost use lib.ListN.{length};
 ghost use Rattle.tree.specs.Tree.{Operator, mostNodes};
 ghost use Rattle.tree.specs.Context.{Side};
 ghost use Rattle.tree.specs.InnerPart.{kindOf};
 ghost use Rattle.tree.specs.InnerWriting.{Wrote};
 ghost use Rattle.moves.specs.Moves.{stateOf};
 ghost use Rattle.moves.specs.InnerEntries.{stateNumber, NextIs};
-ghost use Rattle.moves.specs.InnerWords.{partOf, Within, Bounded, signFor, spell, leading, EntryIs, mostSigns, replaced};
-ghost use Rattle.moves.specs.InnerAbove.{trailing, operatorNumber, frameKind, FrameAfter, AboveIs};
+ghost use Rattle.moves.specs.InnerWords.{partOf, Within, Bounded, signFor, spell, EntryIs, mostSigns, replaced};
+ghost use Rattle.moves.specs.InnerAbove.{PlaceIs, operatorNumber, frameKind, FrameAfter, AboveIs};
 ghost use Rattle.moves.specs.InnerReplacing.{Replaced};
 use tree::DIFFERENCE;
 use tree::MOST_NODES;
@@ -218,7 +218,7 @@ fn word_width(from: [usize; 4], to: [usize; 4], word: &[u8]) -> usize
 
 // The place of A in a word: how many signs stand before it.
 fn place_of_a(word: &[u8]) -> usize
-    ensures { λ r. ⌜ (r ≤ length (now (word .entry))) × (take r (now (word .entry)) ≡ leading (now (word .entry))) × (drop (r + 1) (now (word .entry)) ≡ trailing (now (word .entry))) ⌝ }
+    ensures { λ r. ⌜ PlaceIs (now (word .entry)) r ⌝ }
 {
     let mut i = 0;
     while i < word.len() {

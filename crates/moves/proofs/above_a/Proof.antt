@@ -17,7 +17,7 @@ frame-after-requires-2 : tie.Need-frame-after-requires-2
 frame-after-requires-2 c κs = search needs
 
 returns : tie.Need-returns
-returns c = two-frames (c .before .before .place-of-a .ensures .2) (c .before .frame-after .ensures) (c .frame-after2 .ensures)
+returns c = two-frames (c .before .before .place-of-a .ensures .signs-after) (c .before .frame-after .ensures) (c .frame-after2 .ensures)
 
 pub above-a-spec : {M : Type 1} → statement M
 above-a-spec =

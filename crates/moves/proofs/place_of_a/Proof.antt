@@ -29,7 +29,11 @@ returns c =
     let args = c .before .before .before .before .args in
     let l = c .before .before .before .loop in
     let h = c .before .before .loop-test .taken in
-    (l .inv .0, leading-at (args .word .now) (l .i) h (l .inv .1) (c .if1 .taken), trailing-at (args .word .now) (l .i) h (c .if1 .taken) ∙ l .inv .2)
+    record {
+      within = l .inv .0;
+      signs-before = leading-at (args .word .now) (l .i) h (l .inv .1) (c .if1 .taken);
+      signs-after = trailing-at (args .word .now) (l .i) h (c .if1 .taken) ∙ l .inv .2;
+    }
 
 add-i : tie.Need-add-i Inv-loop μ-loop
 add-i c = search needs
@@ -48,7 +52,11 @@ returns-2 : tie.Need-returns-2 Inv-loop μ-loop
 returns-2 c =
     let args = c .before .before .args in
     let l = c .before .loop in
-    (l .inv .0, leading-all (args .word .now) (l .i) (c .loop-test .left) (l .inv .1), trailing-end (args .word .now) (l .i) (c .loop-test .left) ∙ l .inv .2)
+    record {
+      within = l .inv .0;
+      signs-before = leading-all (args .word .now) (l .i) (c .loop-test .left) (l .inv .1);
+      signs-after = trailing-end (args .word .now) (l .i) (c .loop-test .left) ∙ l .inv .2;
+    }
 
 pub place-of-a-spec : {M : Type 1} → statement M
 place-of-a-spec =

@@ -35,11 +35,11 @@ place-of-a-requires c κs = search needs
 slice-aggregate-word-width : tie.Need-slice-aggregate-word-width
 slice-aggregate-word-width c =
     let args = c .before .before .before .before .before .before .before .args in
-    sym (length-take-le (c .before .place-of-a .result) (args .word .now) (c .before .place-of-a .ensures .0))
+    sym (length-take-le (c .before .place-of-a .result) (args .word .now) (c .before .place-of-a .ensures .within))
 
 word-width-requires-2 : tie.Need-word-width-requires-2
 word-width-requires-2 c κs = let g = c .before .before .before .before .before .before .before in
-    ((g .args .list .now, g .pre .1 .1 .0 .0, g .pre .0), omega (arith, length-take-le (c .before .place-of-a .result) (g .args .word .now) (c .before .place-of-a .ensures .0), c .before .place-of-a .ensures .0, g .pre .1 .1 .1))
+    ((g .args .list .now, g .pre .1 .1 .0 .0, g .pre .0), omega (arith, length-take-le (c .before .place-of-a .result) (g .args .word .now) (c .before .place-of-a .ensures .within), c .before .place-of-a .ensures .within, g .pre .1 .1 .1))
 
 add-start : tie.Need-add-start
 add-start c = search needs
@@ -78,7 +78,7 @@ returns-2 c =
     let same = word-width .ensures .0 (v .list .now) (g .pre .0) in
     record {
       by-word = (
-        ap (λ (n : ℕ). v .whole + n) (word-width2 .ensures .0 (v .list .now) (g .pre .0) ∙ ap (λ (w : List ℕ). length (spell (v .list .now) (v .from) (v .to) w)) (place-of-a .ensures .1)),
+        ap (λ (n : ℕ). v .whole + n) (word-width2 .ensures .0 (v .list .now) (g .pre .0) ∙ ap (λ (w : List ℕ). length (spell (v .list .now) (v .from) (v .to) w)) (place-of-a .ensures .signs-before)),
         written (c .before .before .write-replaced .ensures) _ (omega (arith, same, long)) (if1 .left) (g .pre .1 .1 .0 .1),
       );
     }
