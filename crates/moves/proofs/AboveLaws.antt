@@ -13,8 +13,7 @@ use Rattle.tree.specs.InnerPart.{kindOf}
 use Rattle.tree.proofs.TreeLaws.{and-left}
 use Rattle.tree.proofs.PassLaws.{here}
 use Rattle.moves.specs.Moves.{Formula, A, B, C, D, join, namesA}
-use Rattle.moves.specs.InnerEntries.{once}
-use Rattle.moves.specs.InnerWords.{firstPart, operatorSign, blank, word, partOf}
+use Rattle.moves.specs.InnerWords.{firstPart, operatorSign, blank, word, once, partOf}
 use Rattle.moves.specs.InnerAbove.{trailing, operatorNumber, frameKind, kindsAfter, FrameAfter, kindNumbers, AboveIs}
 use Rattle.moves.specs.declared.WordFrame.{WordFrame}
 use Rattle.moves.proofs.WordLaws.{word-join, not-named}

@@ -10,7 +10,7 @@ use Rattle.tree.specs.Context.{left, right, Frame, frame, plug}
 use Rattle.tree.proofs.ContextLaws.{plug-append}
 use Rattle.moves.specs.Moves.{Formula, A, B, C, D, join, value, framesOf}
 use Rattle.moves.proofs.Cases.{first-true, second-true}
-use Rattle.moves.specs.InnerEntries.{once}
+use Rattle.moves.specs.InnerWords.{once}
 use Rattle.moves.proofs.MoveLaws.{agree, both, agree-at, plug-frames}
 
 -- ---- what the tree comes to, for operators that mean f

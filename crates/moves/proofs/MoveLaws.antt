@@ -12,7 +12,8 @@ use Rattle.tree.specs.Context.{Side, left, right, frame, sided, plug}
 use Rattle.tree.proofs.TreeLaws.{and-left, and-right}
 use Rattle.tree.proofs.ContextLaws.{plug-append}
 use Rattle.moves.specs.Moves.{Formula, A, B, C, D, join, Move, replaceT, replaceTWithD, moveOf, stateOf, inputOf, under, namesA, value, framesOf, State, Input, inputA}
-use Rattle.moves.specs.InnerEntries.{stateNumber, entryOf, once}
+use Rattle.moves.specs.InnerEntries.{stateNumber, entryOf}
+use Rattle.moves.specs.InnerWords.{once}
 use Rattle.moves.proofs.Cases.{equal-bools, allFillings, at-filling, allKinds, at-kind}
 use Rattle.moves.proofs.TableLaws.{same-entry}
 

@@ -14,8 +14,7 @@ use Rattle.tree.specs.Context.{left, right, Frame, frame, before}
 use Rattle.tree.proofs.TreeLaws.{and-left}
 use Rattle.tree.proofs.PassLaws.{here}
 use Rattle.moves.specs.Moves.{Formula, A, B, C, D, join, namesA, value, framesOf}
-use Rattle.moves.specs.InnerWords.{operatorSign, firstPart, blank, word, padded, cut, Range, partOf, signFor, spell, leading}
-use Rattle.moves.specs.InnerEntries.{once}
+use Rattle.moves.specs.InnerWords.{operatorSign, firstPart, blank, word, once, padded, cut, Range, partOf, signFor, spell, leading}
 use Rattle.moves.proofs.MoveLaws.{without-a}
 
 -- ---- one sign

@@ -8,8 +8,7 @@ use lib.ListN.{length, getD, take, drop, replicate}
 use Rattle.tree.specs.Tree.{union, difference}
 use Rattle.tree.specs.InnerPart.{kindOf}
 use Rattle.moves.specs.Moves.{Formula, above}
-use Rattle.moves.specs.InnerEntries.{once}
-use Rattle.moves.specs.InnerWords.{firstPart, operatorSign, blank, word, partOf, leading}
+use Rattle.moves.specs.InnerWords.{firstPart, operatorSign, blank, word, once, partOf, leading}
 use Rattle.moves.specs.declared.WordFrame.{WordFrame}
 use Rattle.moves.specs.declared.AboveA.{AboveA}
 

@@ -1,10 +1,11 @@
--- The numbers by which the code's tables are read, a table's entry, and what is asked of it. No contract of one of 01's calls cites this file.
+-- The numbers by which the code's tables are read, a table's entry, and what functions answer of these. No contract of one of 01's calls cites this file.
 use mathlib.Core.Path.{_≡_}
-use mathlib.Core.Bool.{Bool, true, false, not, cond, _&&_}
 use mathlib.Core.Option.{some}
+use mathlib.Core.List.{List}
 use Prim.Native.Nat.{ℕ}
-use Rattle.moves.specs.Moves.{Formula, A, B, C, D, join, namesA, State, state1, state2, state3, state4, state5, state6, state7, state8, state9, Input, under, Move, replaceT, replaceTWithD}
+use Rattle.moves.specs.Moves.{Formula, State, state1, state2, state3, state4, state5, state6, state7, state8, state9, Input, under, Move, replaceT, replaceTWithD, moveOf}
 use Rattle.moves.specs.NextState.{stateAfter}
+use Rattle.moves.specs.InnerWords.{word, padded}
 
 -- a state's number
 abbrev pub stateNumber : State → ℕ
@@ -27,13 +28,9 @@ abbrev pub entryOf : Move → Input → Formula
 entryOf (replaceT p) i = p
 entryOf (replaceTWithD p q s t) i = under i p q s t
 
--- a formula names A exactly once
-abbrev pub once : Formula → Bool
-once A = true
-once B = false
-once C = false
-once D = false
-once (join o p q) = cond (namesA p) (once p && not (namesA q)) (once q)
+-- the word is the move entry's for the state and the input that have these numbers
+abbrev pub EntryIs : ℕ → ℕ → List ℕ → Type 0
+EntryIs state input w = (x : State) (i : Input) → state ≡ stateNumber x → input ≡ inputNumber i → w ≡ padded (word (entryOf (moveOf x) i))
 
 -- the number of the state after a step, by the numbers of state and input
 abbrev pub NextIs : ℕ → ℕ → ℕ → Type 0

@@ -1,14 +1,12 @@
 -- What a word of the signs A B C D + - stands for, in a list of which four stretches are the parts. No contract of one of
 -- 01's calls cites this file.
-use mathlib.Core.Path.{_≡_}
-use mathlib.Core.Bool.{cond, _&&_}
+use mathlib.Core.Bool.{Bool, true, false, not, cond, _&&_}
 use mathlib.Core.List.{List, [], _∷_, _++_}
 use Prim.Native.Nat.{ℕ, _-_, _≤_, _<_}
 use lib.Dec.{eqb, leb, ltb}
 use lib.ListN.{length, getD, take, drop, replicate}
 use Rattle.tree.specs.Tree.{Operator, union, difference, sign, mostNodes}
-use Rattle.moves.specs.Moves.{Formula, A, B, C, D, join, State, Input, moveOf}
-use Rattle.moves.specs.InnerEntries.{stateNumber, inputNumber, entryOf}
+use Rattle.moves.specs.Moves.{Formula, A, B, C, D, join, namesA}
 
 -- the signs' bytes
 abbrev pub firstPart : ℕ
@@ -32,16 +30,20 @@ word C = 67 ∷ []
 word D = 68 ∷ []
 word (join o p q) = word p ++ (word q ++ (operatorSign o ∷ []))
 
+-- a formula names A exactly once
+abbrev pub once : Formula → Bool
+once A = true
+once B = false
+once C = false
+once D = false
+once (join o p q) = cond (namesA p) (once p && not (namesA q)) (once q)
+
 -- a row of the move table holds 13 signs
 abbrev pub rowSigns : ℕ
 rowSigns = 13
 
 abbrev pub padded : List ℕ → List ℕ
 padded w = w ++ replicate (rowSigns - length w) blank
-
--- the word is the move entry's for the state and the input that have these numbers
-abbrev pub EntryIs : ℕ → ℕ → List ℕ → Type 0
-EntryIs state input w = (x : State) (i : Input) → state ≡ stateNumber x → input ≡ inputNumber i → w ≡ padded (word (entryOf (moveOf x) i))
 
 -- no word is longer than this, so that the number of entries that it stands for is small
 abbrev pub mostSigns : ℕ

@@ -1,6 +1,6 @@
 pub mod Moves
 pub mod NextState
-pub mod InnerEntries
 pub mod InnerWords
 pub mod InnerAbove
+pub mod InnerEntries
 pub mod InnerReplacing

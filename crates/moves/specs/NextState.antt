@@ -10,9 +10,11 @@ use Rattle.moves.specs.Moves.{Formula, above, State, state1, state2, sta
 pub data Kind : Type 0 where
   kind : Side → Operator → Kind
 
+-- of a frame
 abbrev pub kindOfFrame : Frame → Kind
 kindOfFrame (frame s o b) = kind s o
 
+-- of an input: "a is T U D, b is T−D, c is D U T, d is D−T"
 abbrev pub kindOfInput : Input → Kind
 kindOfInput i = under i (kind left union) (kind left difference) (kind right union) (kind right difference)
 

@@ -10,8 +10,8 @@ use Rattle.tree.proofs.ContextLaws.{after, postfix-plug, plug-append, size-plug
 use Rattle.tree.proofs.TreeLaws.{postfix-length}
 use Rattle.tree.proofs.PartLaws.{part-take, part-drop, part-own}
 use Rattle.moves.specs.Moves.{Formula, moveOf, value, framesOf}
-use Rattle.moves.specs.InnerWords.{word, padded, EntryIs, rowSigns, blank, Range, Within, spell, leading, replaced}
-use Rattle.moves.specs.InnerEntries.{entryOf, NextIs}
+use Rattle.moves.specs.InnerWords.{word, padded, rowSigns, blank, Range, Within, spell, leading, replaced}
+use Rattle.moves.specs.InnerEntries.{entryOf, EntryIs, NextIs}
 use Rattle.moves.specs.InnerReplacing.{Written, ReplacedBy, Replaced}
 use Rattle.moves.specs.declared.Replacement.{Replacement}
 use Rattle.moves.specs.declared.Replacement.the-variants.{TooLong, Done}
