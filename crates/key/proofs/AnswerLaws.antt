@@ -14,6 +14,7 @@ use Rattle.tree.proofs.TreeLaws.{postfix-length}
 use Rattle.tree.proofs.GroupLaws.{groups-leaves}
 use Rattle.text.specs.Line.{line, lines}
 use Rattle.text.proofs.LineLaws.{lines-append}
+use Rattle.sheet.specs.Rules.{sheetRules}
 use Rattle.sheet.specs.Reading.{ReadingState, ReadingOutcome, accepted, refused, reading, sheetOf}
 use Rattle.sheet.specs.declared.Sheet.{Sheet}
 use Rattle.sheet.proofs.AcceptedLaws.{accepted-sheet, accepted-short, answered-tree, answered-marks, answered-long, number-accepted, number-refused, Accepted}
@@ -31,10 +32,10 @@ use Rattle.lift_lines.proofs.LiftingLaws.{after-keeps}
 use Rattle.key.proofs.GatheringLaws.{markable-keeps}
 use Rattle.key.proofs.DemandLaws.{demand-3}
 
-module _ (s : List ℕ) (st : ReadingState) (e : reading s ≡ accepted st) (A : Accepted s st) where
+module _ (s : List ℕ) (st : ReadingState) (e : reading s ≡ accepted st) (A : Accepted sheetRules s st) where
   -- at most 10,000 lifts
   pub few-lifts : liftBytes * length (st .lifts) ≤ 160000
-  few-lifts = omega (arith, lifts-few s (st .start) (st .lifts) (A .end) (A .asked), accepted-short s st e)
+  few-lifts = omega (arith, lifts-few sheetRules s (st .start) (st .lifts) (A .end) (A .asked), accepted-short s st e)
 
   pub asked : Asked s (st .start) (length (st .lifts)) (st .lifts)
   asked = record { end = A .end; lines = A .asked; counted = refl }
@@ -67,7 +68,7 @@ module _ (s : List ℕ) (st : ReadingState) (e : reading s ≡ accepted st) (A :
 -- ---- what `read` answers for such a sheet
 pub record IsRead (s : List ℕ) (st : ReadingState) (read : Sheet) : Type 0 where
   pub is : reading s ≡ accepted st
-  pub has : Accepted s st
+  pub has : Accepted sheetRules s st
   pub list : take (read .nodes) (read .tree) ≡ postfix (has .tree)
   pub long : read .nodes ≤ length (read .tree)
   pub counted : read .nodes ≡ size (has .tree)

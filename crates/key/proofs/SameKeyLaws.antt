@@ -4,23 +4,39 @@ use mathlib.Core.Logic.{_⊎_, inl, inr}
 use mathlib.Core.List.{List}
 use Prim.Native.Nat.{ℕ, _+_}
 use native.Mathlib.Omega.{arith}
-use Rattle.sheet.specs.Rules.{Rules, Stricter, baseRules, sheetRules}
+use Rattle.sheet.specs.Rules.{Rules, Stricter, baseRules, earlierRules, sheetRules}
 use Rattle.sheet.specs.Reading.{ReadingState, accepted, refused, readWith, reading}
-use Rattle.sheet.proofs.RulesLaws.{nodes-only, stricter-accepts}
+use Rattle.sheet.proofs.RulesLaws.{Outcomes, same, no-node, no-group, two-rules, stricter-accepts, fewer-nodes, more-groups}
 use Rattle.key.specs.InnerKeyOf.{keyBy, keyWith, keyOf}
 
 -- a sheet that rules accept has the same key by looser ones
 pub same-key : (few more : Rules) → Stricter few more → (s : List ℕ) (st : ReadingState) → readWith few s ≡ accepted st → keyWith few s ≡ keyWith more s
 same-key few more h s st e = ap keyBy (e ∙ sym (stricter-accepts few more h s st e))
 
--- Request 1: "A sheet within the new limit gets the key it had": one that today's rules accept has the key that 01's gave it.
-pub keeps-key : (s : List ℕ) (st : ReadingState) → reading s ≡ accepted st → keyOf s ≡ keyWith baseRules s
-keeps-key = same-key sheetRules baseRules (record { nodes = omega arith })
+-- ---- request 1
+-- "A sheet within the new limit gets the key it had": one that the rules with request 1 accept has the key that 01's gave it.
+pub keeps-key : (s : List ℕ) (st : ReadingState) → readWith earlierRules s ≡ accepted st → keyWith earlierRules s ≡ keyWith baseRules s
+keeps-key = same-key earlierRules baseRules fewer-nodes
 
 -- So has one that they refuse, its `NO` line, unless that is "5 .. at the 256th".
-pub keeps-unless-5 : (s : List ℕ) → (keyOf s ≡ keyWith baseRules s) ⊎ (reading s ≡ refused 5 (sheetRules .nodes + 1))
-keeps-unless-5 s = go (nodes-only baseRules (sheetRules .nodes) (omega arith) s)
+pub keeps-unless-5 : (s : List ℕ) → (keyWith earlierRules s ≡ keyWith baseRules s) ⊎ (readWith earlierRules s ≡ refused 5 (earlierRules .nodes + 1))
+keeps-unless-5 s = go (two-rules earlierRules baseRules fewer-nodes s)
   where
-    go : (reading s ≡ readWith baseRules s) ⊎ (reading s ≡ refused 5 (sheetRules .nodes + 1)) → (keyOf s ≡ keyWith baseRules s) ⊎ (reading s ≡ refused 5 (sheetRules .nodes + 1))
-    go (inl e) = inl (ap keyBy e)
-    go (inr e) = inr e
+    go : Outcomes earlierRules baseRules (readWith earlierRules s) (readWith baseRules s) → (keyWith earlierRules s ≡ keyWith baseRules s) ⊎ (readWith earlierRules s ≡ refused 5 (earlierRules .nodes + 1))
+    go (same e) = inl (ap keyBy e)
+    go (no-node l e) = inr e
+    go (no-group l line e) = absurd (omega (arith, l))
+
+-- ---- request 4
+-- "A user with old sheets, accepted until now, sees the old keys."
+pub keeps-old-key : (s : List ℕ) (st : ReadingState) → readWith earlierRules s ≡ accepted st → keyOf s ≡ keyWith earlierRules s
+keeps-old-key s st e = sym (same-key earlierRules sheetRules more-groups s st e)
+
+-- So has a sheet that was refused, its `NO` line, unless that is 2: "Form faults (2) .. follow the new range".
+pub keeps-unless-2 : (s : List ℕ) → (keyOf s ≡ keyWith earlierRules s) ⊎ ((line : ℕ) × (readWith earlierRules s ≡ refused 2 line))
+keeps-unless-2 s = go (two-rules earlierRules sheetRules more-groups s)
+  where
+    go : Outcomes earlierRules sheetRules (readWith earlierRules s) (reading s) → (keyOf s ≡ keyWith earlierRules s) ⊎ ((line : ℕ) × (readWith earlierRules s ≡ refused 2 line))
+    go (same e) = inl (ap keyBy (sym e))
+    go (no-node l e) = absurd (omega (arith, l))
+    go (no-group l line e) = inr (line, e)

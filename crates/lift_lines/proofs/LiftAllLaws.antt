@@ -7,6 +7,7 @@ use native.Mathlib.Omega.{arith}
 use lib.ListN.{length, take}
 use Rattle.tree.specs.Tree.{Tree, mostNodes}
 use Rattle.text.specs.Line.{lines}
+use Rattle.sheet.specs.Rules.{sheetRules}
 use Rattle.sheet.specs.InnerLines.{lineAt, LiftRange, LiftsTo}
 use Rattle.sheet.specs.Reading.{LiftLine}
 use Rattle.sheet.specs.declared.Line.the-variants.{Lift}
@@ -48,14 +49,14 @@ pub record Turn (sheet : List ℕ) (at : ℕ) (rest : List LiftLine) : Type 0 wh
   pub line : LiftLine
   pub more : List LiftLine
   pub is : rest ≡ line ∷ more
-  pub read : lineAt sheet at .line ≡ Lift (line .position) (line .levels)
+  pub read : lineAt sheetRules sheet at .line ≡ Lift (line .position) (line .levels)
   pub range : LiftRange line
 
 pub turn : (sheet : List ℕ) (at n : ℕ) (rest : List LiftLine) → Asked sheet at n rest → 0 < n → Turn sheet at rest
 turn sheet at n [] A h = absurd (omega (arith, A .counted))
 turn sheet at n (m ∷ ms) A h = unfold LiftsTo in record { line = m; more = ms; is = refl; read = A .lines .0; range = A .lines .1 }
 
-next-asked : (sheet : List ℕ) (at n : ℕ) (m : LiftLine) (ms : List LiftLine) → Asked sheet at (suc n) (m ∷ ms) → Asked sheet (lineAt sheet at .next) n ms
+next-asked : (sheet : List ℕ) (at n : ℕ) (m : LiftLine) (ms : List LiftLine) → Asked sheet at (suc n) (m ∷ ms) → Asked sheet (lineAt sheetRules sheet at .next) n ms
 unfolding LiftsTo
 next-asked sheet at n m ms A = record { end = A .end; lines = A .lines .2; counted = omega (arith, A .counted) }
 
@@ -74,7 +75,7 @@ module _ {sheet : List ℕ} {t : Tree} {ls : List LiftLine} {count i : ℕ} {tre
   reached-turn h = turn sheet at (count - i) (R .rest) (R .asked) (omega arith)
 
   pub reached-next : {tree′ out′ : List ℕ} {r : Progress} → i < count → (T : Turn sheet at (R .rest)) → LiftedOne (R .present) (T .line) tree′ r out next out′
-      → Reached sheet t ls count (i + 1) tree′ (r .nodes) out₀ out′ (lineAt sheet at .next) (r .next)
+      → Reached sheet t ls count (i + 1) tree′ (r .nodes) out₀ out′ (lineAt sheetRules sheet at .next) (r .next)
   reached-next h T L =
       let n : count - i ≡ suc (count - (i + 1)) = omega arith in
       let A : Asked sheet at (suc (count - (i + 1))) (T .line ∷ T .more) = rw (← n, ← T .is) (R .asked) in

@@ -8,6 +8,7 @@ use Rattle.tree.specs.InnerWriting.{Wrote}
 use Rattle.text.specs.Line.{lines}
 use Rattle.sheet.specs.Form.{mostPosition, mostLevels}
 use Rattle.sheet.specs.Reading.{LiftLine}
+use Rattle.sheet.specs.Rules.{sheetRules}
 use Rattle.sheet.specs.InnerLines.{LiftsTo}
 use Rattle.printing.specs.Key.{liftRow, liftRows}
 use Rattle.printing.specs.Inner.{rowText}
@@ -50,7 +51,7 @@ LiftsOne tree nodes position levels tree′ r out at out′ =
 -- the lines at `start` ask for these lifts
 pub record Asked (sheet : List ℕ) (start count : ℕ) (ls : List LiftLine) : Type 0 where
   pub end : ℕ
-  pub lines : LiftsTo sheet start ls end
+  pub lines : LiftsTo sheetRules sheet start ls end
   pub counted : count ≡ length ls
 
 -- all lifts, from the tree t, and their lines

@@ -9,7 +9,7 @@ use native.Mathlib.Omega.{arith}
 use borrow.Author.Tests.{eqb-true, eqb-false, ltb-true, ltb-false}
 use lib.Dec.{eqb, ltb}
 use lib.ListN.{length, replicate, take, drop, length-append}
-use Rattle.tree.specs.Tree.{Tree, mostNodes, postfix, size, isIn, collect, groups, leaves, mostGroups}
+use Rattle.tree.specs.Tree.{Tree, mostNodes, mostGroup, postfix, size, isIn, collect, groups, leaves, mostGroups}
 use Rattle.tree.specs.InnerGroups.{Distinct, leavesIn}
 use Rattle.tree.specs.Parse.{treeOf}
 use Rattle.tree.proofs.TreeLaws.{postfix-length}
@@ -32,7 +32,7 @@ use Rattle.sheet.proofs.HoldLaws.{marks-few}
 
 -- what reading accepted: one tree within the limits, marks that are groups of it, each once, and lifts that stand line by line
 -- from the byte `start` on
-pub record Accepted (sheet : List ℕ) (st : ReadingState) : Type 0 where
+pub record Accepted (rules : Rules) (sheet : List ℕ) (st : ReadingState) : Type 0 where
   pub tree : Tree
   pub is : treeOf (st .entries) ≡ some tree
   pub list : st .entries ≡ postfix tree
@@ -42,57 +42,57 @@ pub record Accepted (sheet : List ℕ) (st : ReadingState) : Type 0 where
   pub marked : (g : ℕ) → isIn (st .marks) g ≡ true → isIn (leaves tree) g ≡ true
   pub few : length (st .marks) ≤ mostGroups
   pub end : ℕ
-  pub asked : LiftsTo sheet (st .start) (st .lifts) end
+  pub asked : LiftsTo rules sheet (st .start) (st .lifts) end
 
 pub no-outcome : {st : ReadingState} {n line : ℕ} {X : Type 0} → refused n line ≡ accepted st → X
 no-outcome e = absurd (let z : _≡_ {A = ℕ} 0 1 = cc in omega arith)
 
 -- ---- the lifts read so far: the byte after them is the next line's until a mark or the end comes
-record Path (s : List ℕ) (st : ReadingState) (at : ℕ) : Type 0 where
+record Path (rules : Rules) (s : List ℕ) (st : ReadingState) (at : ℕ) : Type 0 where
   to : ℕ
-  lifts : LiftsTo s (st .start) (st .lifts) to
+  lifts : LiftsTo rules s (st .start) (st .lifts) to
   here : st .phase ≤ 1 → to ≡ at
   none-yet : st .phase ≤ 0 → st .lifts ≡ []
 
-lifts-none : (s : List ℕ) (at : ℕ) → LiftsTo s at [] at
+lifts-none : (rules : Rules) (s : List ℕ) (at : ℕ) → LiftsTo rules s at [] at
 unfolding LiftsTo
-lifts-none s at = refl
+lifts-none rules s at = refl
 
-lifts-snoc : (s : List ℕ) (from at : ℕ) (ms : List LiftLine) (m : LiftLine) → LiftsTo s from ms at → lineAt s at .line ≡ Lift (m .position) (m .levels) → LiftRange m
-    → LiftsTo s from (ms ++ (m ∷ [])) (lineAt s at .next)
+lifts-snoc : (rules : Rules) (s : List ℕ) (from at : ℕ) (ms : List LiftLine) (m : LiftLine) → LiftsTo rules s from ms at → lineAt rules s at .line ≡ Lift (m .position) (m .levels) → LiftRange m
+    → LiftsTo rules s from (ms ++ (m ∷ [])) (lineAt rules s at .next)
 unfolding LiftsTo
-lifts-snoc s from at [] m e l r = rw e (l, r, refl)
-lifts-snoc s from at (k ∷ ms) m e l r = (e .0, e .1, lifts-snoc s (lineAt s from .next) at ms m (e .2) l r)
+lifts-snoc rules s from at [] m e l r = rw e (l, r, refl)
+lifts-snoc rules s from at (k ∷ ms) m e l r = (e .0, e .1, lifts-snoc rules s (lineAt rules s from .next) at ms m (e .2) l r)
 
-path-entered : (s : List ℕ) (st : ReadingState) (at x after : ℕ) (gs : List ℕ) → Path s st at → st .phase ≤ 0
-    → Path s (entered st x gs after) after
-path-entered s st at x after gs p h =
+path-entered : (rules : Rules) (s : List ℕ) (st : ReadingState) (at x after : ℕ) (gs : List ℕ) → Path rules s st at → st .phase ≤ 0
+    → Path rules s (entered st x gs after) after
+path-entered rules s st at x after gs p h =
     let e = p .none-yet h in
-    record { to = after; lifts = rw e (lifts-none s after); here = λ _. refl; none-yet = λ _. e }
+    record { to = after; lifts = rw e (lifts-none rules s after); here = λ _. refl; none-yet = λ _. e }
 
-path-over : (s : List ℕ) (st : ReadingState) (at after phase : ℕ) (ms : List ℕ) → Path s st at → 1 < phase
-    → Path s (record { phase = phase; entries = st .entries; groups = st .groups; marks = ms; start = st .start; lifts = st .lifts }) after
-path-over s st at after phase ms p h =
+path-over : (rules : Rules) (s : List ℕ) (st : ReadingState) (at after phase : ℕ) (ms : List ℕ) → Path rules s st at → 1 < phase
+    → Path rules s (record { phase = phase; entries = st .entries; groups = st .groups; marks = ms; start = st .start; lifts = st .lifts }) after
+path-over rules s st at after phase ms p h =
     record { to = p .to; lifts = p .lifts; here = λ z. absurd (omega arith); none-yet = λ z. absurd (omega arith) }
 
-path-next : (rules : Rules) (s : List ℕ) (st : ReadingState) (at : ℕ) (l : Line) → Path s st at → lineAt s at .line ≡ l → InRange l → faultOf rules st l ≡ 0
-    → Path s (stateAfter st l (lineAt s at .next)) (lineAt s at .next)
+path-next : (rules : Rules) (s : List ℕ) (st : ReadingState) (at : ℕ) (l : Line) → Path rules s st at → lineAt rules s at .line ≡ l → InRange l → faultOf rules st l ≡ 0
+    → Path rules s (stateAfter st l (lineAt rules s at .next)) (lineAt rules s at .next)
 path-next rules s st at Bad p q r e = absurd (bad-fault rules st e)
-path-next rules s st at (Group g) p q r e = path-entered s st at g _ _ p (order-none (st .phase) (length (trees (st .entries))) 0 (none-of rules st (Group g) e .0) .0)
-path-next rules s st at (Operator x) p q r e = path-entered s st at x _ _ p (order-none (st .phase) (length (trees (st .entries))) 0 (none-of rules st (Operator x) e .0) .0)
+path-next rules s st at (Group g) p q r e = path-entered rules s st at g _ _ p (order-none (st .phase) (length (trees (st .entries))) 0 (none-of rules st (Group g) e .0) .0)
+path-next rules s st at (Operator x) p q r e = path-entered rules s st at x _ _ p (order-none (st .phase) (length (trees (st .entries))) 0 (none-of rules st (Operator x) e .0) .0)
 path-next rules s st at (Lift k n) p q r e =
     let h : p .to ≡ at = p .here (order-none (st .phase) (length (trees (st .entries))) 1 (none-of rules st (Lift k n) e .0) .0) in
     record {
-      to = lineAt s at .next;
-      lifts = lifts-snoc s (st .start) at (st .lifts) (record { position = k; levels = n }) (rw h at (p .lifts)) q r;
+      to = lineAt rules s at .next;
+      lifts = lifts-snoc rules s (st .start) at (st .lifts) (record { position = k; levels = n }) (rw h at (p .lifts)) q r;
       here = λ z. refl;
       none-yet = λ z. absurd (omega arith);
     }
-path-next rules s st at (Mark g) p q r e = path-over s st at _ 2 _ p (omega arith)
-path-next rules s st at End p q r e = path-over s st at _ ended _ p (omega arith)
+path-next rules s st at (Mark g) p q r e = path-over rules s st at _ 2 _ p (omega arith)
+path-next rules s st at End p q r e = path-over rules s st at _ ended _ p (omega arith)
 
 -- ---- at the end
-accepted-of : (rules : Rules) (s : List ℕ) (st : ReadingState) (at : ℕ) → rules .nodes ≤ mostNodes → Sound rules st → Path s st at → st .phase ≡ ended → Accepted s st
+accepted-of : (rules : Rules) (s : List ℕ) (st : ReadingState) (at : ℕ) → rules .nodes ≤ mostNodes → Sound rules st → Path rules s st at → st .phase ≡ ended → Accepted rules s st
 accepted-of rules s st at m S p e =
     let w = one-tree (st .entries) (S .forest) (S .one (λ z. omega (arith, e))) in
     let t : Tree = w .0 in
@@ -113,54 +113,54 @@ accepted-of rules s st at m S p e =
     }
 
 -- ---- line by line; `fuel` bounds how many bytes are left
-module _ (rules : Rules) (s : List ℕ) (m : rules .nodes ≤ mostNodes) (end : ReadingState) where
-  at-end : (st : ReadingState) (n at : ℕ) → Sound rules st → Path s st at → cond (eqb (st .phase) ended) (accepted st) (refused 10 (n + 1)) ≡ accepted end → Accepted s end
+module _ (rules : Rules) (s : List ℕ) (m : rules .nodes ≤ mostNodes) (g : rules .lastGroup ≤ mostGroup) (end : ReadingState) where
+  at-end : (st : ReadingState) (n at : ℕ) → Sound rules st → Path rules s st at → cond (eqb (st .phase) ended) (accepted st) (refused 10 (n + 1)) ≡ accepted end → Accepted rules s end
   at-end st n at S p e = go (eqb (st .phase) ended) refl e
     where
-      go : (b : Bool) → eqb (st .phase) ended ≡ b → cond b (accepted st) (refused 10 (n + 1)) ≡ accepted end → Accepted s end
+      go : (b : Bool) → eqb (st .phase) ended ≡ b → cond b (accepted st) (refused 10 (n + 1)) ≡ accepted end → Accepted rules s end
       go true q e = let z : st ≡ end = cc in rw z at (accepted-of rules s st at m S p (eqb-true (st .phase) ended q))
       go false q e = no-outcome e
 
   -- what is shown of each state on the way: if reading from there accepts `end`, `end` has what an accepted sheet has
   abbrev Ends : ℕ → Type 0
-  Ends fuel = (st : ReadingState) (n at : ℕ) → length s ≤ at + fuel → Sound rules st → Path s st at
-      → readLines rules st n at (split lineFeed (drop at s)) ≡ accepted end → Accepted s end
+  Ends fuel = (st : ReadingState) (n at : ℕ) → length s ≤ at + fuel → Sound rules st → Path rules s st at
+      → readLines rules st n at (split lineFeed (drop at s)) ≡ accepted end → Accepted rules s end
 
   accepted-lines : (fuel : ℕ) → Ends fuel
   accepted-lines zero st n at f S p e = at-end st n at S p (sym (lines-end rules st n at s (omega arith)) ∙ e)
   accepted-lines (suc fuel) st n at f S p e = go (ltb at (length s)) refl (accepted-lines fuel)
     where
       l : Line
-      l = lineAt s at .line
+      l = lineAt rules s at .line
 
       to : ℕ
-      to = lineAt s at .next
+      to = lineAt rules s at .next
 
       more : at < length s → Ends fuel → (b : Bool) → eqb (faultOf rules st l) 0 ≡ b → cond b (readLines rules (stateAfter st l to) (n + 1) to (split lineFeed (drop to s))) (refused (faultOf rules st l) (n + 1)) ≡ accepted end
-          → Accepted s end
+          → Accepted rules s end
       more h ih true q e =
           let z = eqb-true (faultOf rules st l) 0 q in
-          ih (stateAfter st l to) (n + 1) to (omega (arith, one-line s at h .more)) (sound-next rules st S l to (line-at-range s at) z) (path-next rules s st at l p refl (line-at-range s at) z) e
+          ih (stateAfter st l to) (n + 1) to (omega (arith, one-line rules s at h .more)) (sound-next rules st S l to (line-at-range rules g s at) z) (path-next rules s st at l p refl (line-at-range rules g s at) z) e
       more h ih false q e = no-outcome e
 
-      go : (b : Bool) → ltb at (length s) ≡ b → Ends fuel → Accepted s end
-      go true q ih = let h = ltb-true at (length s) q in more h ih (eqb (faultOf rules st l) 0) refl (sym (one-line s at h .goes rules st n) ∙ e)
+      go : (b : Bool) → ltb at (length s) ≡ b → Ends fuel → Accepted rules s end
+      go true q ih = let h = ltb-true at (length s) q in more h ih (eqb (faultOf rules st l) 0) refl (sym (one-line rules s at h .goes st n) ∙ e)
       go false q ih = at-end st n at S p (sym (lines-end rules st n at s (ltb-false at (length s) q)) ∙ e)
 
-  pub accepted-within : readWith rules s ≡ accepted end → Accepted s end
+  pub accepted-within : readWith rules s ≡ accepted end → Accepted rules s end
   unfolding readWith
   accepted-within e = go (ltb mostBytes (length s)) e
     where
-      start : Path s nothingRead 0
-      start = record { to = 0; lifts = lifts-none s 0; here = λ _. refl; none-yet = λ _. refl }
+      start : Path rules s nothingRead 0
+      start = record { to = 0; lifts = lifts-none rules s 0; here = λ _. refl; none-yet = λ _. refl }
 
-      go : (b : Bool) → cond b (refused 1 0) (readLines rules nothingRead 0 0 (split lineFeed s)) ≡ accepted end → Accepted s end
+      go : (b : Bool) → cond b (refused 1 0) (readLines rules nothingRead 0 0 (split lineFeed s)) ≡ accepted end → Accepted rules s end
       go true e = no-outcome e
       go false e = accepted-lines (length s) nothingRead 0 0 (omega arith) (sound-nothing-read rules) start e
 
 -- what an accepted sheet has
-pub accepted-sheet : (s : List ℕ) (st : ReadingState) → reading s ≡ accepted st → Accepted s st
-accepted-sheet s st e = accepted-within sheetRules s (omega arith) st e
+pub accepted-sheet : (s : List ℕ) (st : ReadingState) → reading s ≡ accepted st → Accepted sheetRules s st
+accepted-sheet s st e = accepted-within sheetRules s (omega arith) (omega arith) st e
 
 -- it is within the limit of bytes
 pub accepted-short : (s : List ℕ) (st : ReadingState) → reading s ≡ accepted st → length s ≤ mostBytes
@@ -189,7 +189,7 @@ refused-lines rules (last l) st n at number line e z = go (eqb (length l) 0) (eq
     go true false e = let q : number ≡ 10 = cc in omega arith
     go false b e = let q : number ≡ 2 = cc in omega arith
 refused-lines rules (part l ls) st n at number line e z =
-    refused-line _ (faultOf rules st (lineOf l)) (n + 1) number line e (refused-lines rules ls _ _ _ number line) z
+    refused-line _ (faultOf rules st (lineOf rules l)) (n + 1) number line e (refused-lines rules ls _ _ _ number line) z
 
 pub refused-number : (rules : Rules) (s : List ℕ) (number line : ℕ) → readWith rules s ≡ refused number line → number ≡ 0 → ⊥
 unfolding readWith

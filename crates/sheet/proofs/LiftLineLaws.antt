@@ -8,13 +8,14 @@ use native.Mathlib.Omega.{arith}
 use borrow.Author.Tests.{eqb-true, ltb-true}
 use lib.Dec.{eqb, ltb}
 use lib.ListN.{length, drop, length-append, length-drop}
-use Rattle.tree.specs.Tree.{isGroup, union, difference, sign}
+use Rattle.tree.specs.Tree.{isUpTo, union, difference, sign}
 use Rattle.text.specs.Decimal.{decimal, value, leadingZero, allDigits}
 use Rattle.text.specs.Parts.{Parts, last, part, split, join}
 use Rattle.text.specs.Line.{tab, lineFeed}
 use Rattle.text.proofs.PartsLaws.{join-split}
 use Rattle.sheet.specs.Form.{letterG, letterU, letterD, letterL, letterK, letterE, isPosition, isLevels, letterOf, ranged, bare, oneNumber, twoNumbers, formOf, lineOf}
 use Rattle.sheet.specs.InnerLines.{firstLine, lineAt, LiftsTo}
+use Rattle.sheet.specs.Rules.{Rules}
 use Rattle.sheet.specs.Reading.{LiftLine}
 use Rattle.sheet.specs.declared.Line.{Line}
 use Rattle.sheet.specs.declared.Line.the-variants.{Group, Operator, Lift, Mark, End, Bad}
@@ -60,12 +61,12 @@ ranged-other passes form (some g) f = go (passes g)
     go true = f g
     go false = refl
 
-one-other : (k : ℕ) (o : Option ℕ) → isLift (oneNumber k o) ≡ false
-one-other k o = go (eqb k letterG) (eqb k letterK)
+one-other : (rules : Rules) (k : ℕ) (o : Option ℕ) → isLift (oneNumber rules k o) ≡ false
+one-other rules k o = go (eqb k letterG) (eqb k letterK)
   where
-    go : (a b : Bool) → isLift (cond a (ranged isGroup Group o) (cond b (ranged isGroup Mark o) Bad)) ≡ false
-    go true b = ranged-other isGroup Group o (λ g. refl)
-    go false true = ranged-other isGroup Mark o (λ g. refl)
+    go : (a b : Bool) → isLift (cond a (ranged (isUpTo (rules .lastGroup)) Group o) (cond b (ranged (isUpTo (rules .lastGroup)) Mark o) Bad)) ≡ false
+    go true b = ranged-other _ Group o (λ g. refl)
+    go false true = ranged-other _ Mark o (λ g. refl)
     go false false = refl
 
 -- a letter is one byte
@@ -88,39 +89,39 @@ two-long k f g p n e = go (eqb (letterOf k) letterL) refl (decimal f) refl (deci
     go true q none r y s e = no-lift Bad p n refl e
     go false q x r y s e = no-lift Bad p n refl e
 
-long-enough : (ps : Parts) (p n : ℕ) → formOf ps ≡ Lift p n → 5 ≤ length (join tab ps)
+long-enough : (rules : Rules) (ps : Parts) (p n : ℕ) → formOf rules ps ≡ Lift p n → 5 ≤ length (join tab ps)
 unfolding formOf join
-long-enough (last k) p n e = no-lift (bare (letterOf k)) p n (bare-other (letterOf k)) e
-long-enough (part k (last f)) p n e = no-lift (oneNumber (letterOf k) (decimal f)) p n (one-other (letterOf k) (decimal f)) e
-long-enough (part k (part f (last g))) p n e =
+long-enough rules (last k) p n e = no-lift (bare (letterOf k)) p n (bare-other (letterOf k)) e
+long-enough rules (part k (last f)) p n e = no-lift (oneNumber rules (letterOf k) (decimal f)) p n (one-other rules (letterOf k) (decimal f)) e
+long-enough rules (part k (part f (last g))) p n e =
     let z = two-long k f g p n e in omega (arith, length-append k (tab ∷ (f ++ (tab ∷ g))), length-append f (tab ∷ g), z .0, z .1, z .2)
-long-enough (part k (part f (part g fs))) p n e = no-lift Bad p n refl e
+long-enough rules (part k (part f (part g fs))) p n e = no-lift Bad p n refl e
 
-line-long : (l : List ℕ) (p n : ℕ) → lineOf l ≡ Lift p n → 5 ≤ length l
+line-long : (rules : Rules) (l : List ℕ) (p n : ℕ) → lineOf rules l ≡ Lift p n → 5 ≤ length l
 unfolding lineOf
-line-long l p n e = rw (join-split tab l) at (long-enough (split tab l) p n e)
+line-long rules l p n e = rw (join-split tab l) at (long-enough rules (split tab l) p n e)
 
 -- the line after a lift line begins at least 6 bytes on, within the sheet
-pub lift-line-long : (sheet : List ℕ) (at p n : ℕ) → lineAt sheet at .line ≡ Lift p n → (at + 6 ≤ lineAt sheet at .next) × (lineAt sheet at .next ≤ length sheet)
+pub lift-line-long : (rules : Rules) (sheet : List ℕ) (at p n : ℕ) → lineAt rules sheet at .line ≡ Lift p n → (at + 6 ≤ lineAt rules sheet at .next) × (lineAt rules sheet at .next ≤ length sheet)
 unfolding lineAt join
-lift-line-long sheet at p n e = go (split lineFeed (drop at sheet)) (join-split lineFeed (drop at sheet)) e
+lift-line-long rules sheet at p n e = go (split lineFeed (drop at sheet)) (join-split lineFeed (drop at sheet)) e
   where
-    go : (ps : Parts) → join lineFeed ps ≡ drop at sheet → firstLine at ps .line ≡ Lift p n → (at + 6 ≤ firstLine at ps .next) × (firstLine at ps .next ≤ length sheet)
+    go : (ps : Parts) → join lineFeed ps ≡ drop at sheet → firstLine rules at ps .line ≡ Lift p n → (at + 6 ≤ firstLine rules at ps .next) × (firstLine rules at ps .next ≤ length sheet)
     go (last l) j e = no-lift Bad p n refl e
     go (part l ls) j e =
-        let z = line-long l p n e in
+        let z = line-long rules l p n e in
         (omega arith, omega (arith, ap length j, length-append l (lineFeed ∷ join lineFeed ls), length-drop at sheet))
 
-pub lifts-most : (sheet : List ℕ) (at : ℕ) (ms : List LiftLine) (to : ℕ) → at ≤ length sheet → LiftsTo sheet at ms to → at + 6 * length ms ≤ length sheet
+pub lifts-most : (rules : Rules) (sheet : List ℕ) (at : ℕ) (ms : List LiftLine) (to : ℕ) → at ≤ length sheet → LiftsTo rules sheet at ms to → at + 6 * length ms ≤ length sheet
 unfolding LiftsTo
-lifts-most sheet at [] to h z = omega arith
-lifts-most sheet at (m ∷ ms) to h z =
-    let w = lift-line-long sheet at (m .position) (m .levels) (z .0) in
-    omega (arith, w .0, w .1, lifts-most sheet (lineAt sheet at .next) ms to (w .1) (z .2))
+lifts-most rules sheet at [] to h z = omega arith
+lifts-most rules sheet at (m ∷ ms) to h z =
+    let w = lift-line-long rules sheet at (m .position) (m .levels) (z .0) in
+    omega (arith, w .0, w .1, lifts-most rules sheet (lineAt rules sheet at .next) ms to (w .1) (z .2))
 
-pub lifts-few : (sheet : List ℕ) (at : ℕ) (ms : List LiftLine) (to : ℕ) → LiftsTo sheet at ms to → 6 * length ms ≤ length sheet
+pub lifts-few : (rules : Rules) (sheet : List ℕ) (at : ℕ) (ms : List LiftLine) (to : ℕ) → LiftsTo rules sheet at ms to → 6 * length ms ≤ length sheet
 unfolding LiftsTo
-lifts-few sheet at [] to z = omega arith
-lifts-few sheet at (m ∷ ms) to z =
-    let w = lift-line-long sheet at (m .position) (m .levels) (z .0) in
-    omega (arith, lifts-most sheet at (m ∷ ms) to (omega (arith, w .0, w .1)) z)
+lifts-few rules sheet at [] to z = omega arith
+lifts-few rules sheet at (m ∷ ms) to z =
+    let w = lift-line-long rules sheet at (m .position) (m .levels) (z .0) in
+    omega (arith, lifts-most rules sheet at (m ∷ ms) to (omega (arith, w .0, w .1)) z)

@@ -9,76 +9,86 @@ use borrow.Author.Tests.{ne-eqb, ltb-true, ltb-false}
 use lib.Dec.{eqb, ltb}
 use lib.ListN.{length, take, drop, drop-of-length-le, length-drop}
 use lib.Seq.{drop-drop, length-take-le}
+use Rattle.tree.specs.Tree.{mostGroup}
 use Rattle.text.specs.Parts.{Parts, last, part, split}
 use Rattle.text.specs.Inner.{ahead}
 use Rattle.text.specs.Line.{lineFeed}
 use Rattle.text.proofs.PartsLaws.{split-all, split-first, ahead-most}
 use Rattle.sheet.specs.Form.{lineOf}
 use Rattle.sheet.specs.InnerLines.{firstLine, lineAt}
-use Rattle.sheet.specs.Rules.{Rules}
+use Rattle.sheet.specs.Rules.{Rules, withNodes}
 use Rattle.sheet.specs.Reading.{ReadingState, ended, faultOf, stateAfter, accepted, refused, readLines}
 use Rattle.sheet.specs.InnerHolding.{InRange}
 use Rattle.sheet.specs.declared.Line.the-variants.{Bad}
 use Rattle.sheet.specs.declared.LineAt.{LineAt}
-use Rattle.sheet.proofs.FormLaws.{line-range}
+use Rattle.sheet.proofs.FormLaws.{line-range, line-nodes}
 
-pub line-past : (s : List ℕ) (at : ℕ) → length s ≤ at → lineAt s at ≡ record { line = Bad; next = at }
+pub line-past : (rules : Rules) (s : List ℕ) (at : ℕ) → length s ≤ at → lineAt rules s at ≡ record { line = Bad; next = at }
 unfolding lineAt split
-line-past s at h = rw (drop-of-length-le s h) (ap (λ (n : ℕ). record { line = Bad; next = n }) (omega arith))
+line-past rules s at h = rw (drop-of-length-le s h) (ap (λ (n : ℕ). record { line = Bad; next = n }) (omega arith))
 
 -- k bytes stand ahead of the next LF
-module _ (s : List ℕ) (at k : ℕ) (e : k ≡ ahead lineFeed (drop at s)) where
-  pub line-cut : k ≡ length (drop at s) → lineAt s at ≡ record { line = Bad; next = at + k }
+module _ (rules : Rules) (s : List ℕ) (at k : ℕ) (e : k ≡ ahead lineFeed (drop at s)) where
+  pub line-cut : k ≡ length (drop at s) → lineAt rules s at ≡ record { line = Bad; next = at + k }
   unfolding lineAt
   line-cut h = rw (split-all lineFeed (drop at s) (sym e ∙ h), h)
 
-  pub line-whole : k < length (drop at s) → lineAt s at ≡ record { line = lineOf (take k (drop at s)); next = at + k + 1 }
+  pub line-whole : k < length (drop at s) → lineAt rules s at ≡ record { line = lineOf rules (take k (drop at s)); next = at + k + 1 }
   unfolding lineAt
   line-whole h = rw (split-first lineFeed (drop at s) (rw e at h), ← e, length-take-le k (drop at s) (le-of-lt h))
 
-first-range : (at : ℕ) (ps : Parts) → InRange (firstLine at ps .line)
-first-range at (last l) = tt
-first-range at (part l ls) = line-range l
+first-range : (rules : Rules) → rules .lastGroup ≤ mostGroup → (at : ℕ) (ps : Parts) → InRange (firstLine rules at ps .line)
+first-range rules m at (last l) = tt
+first-range rules m at (part l ls) = line-range rules m l
 
 -- the numbers of the line at a byte are in their ranges
-pub line-at-range : (s : List ℕ) (at : ℕ) → InRange (lineAt s at .line)
+pub line-at-range : (rules : Rules) → rules .lastGroup ≤ mostGroup → (s : List ℕ) (at : ℕ) → InRange (lineAt rules s at .line)
 unfolding lineAt
-line-at-range s at = first-range at (split lineFeed (drop at s))
+line-at-range rules m s at = first-range rules m at (split lineFeed (drop at s))
+
+first-nodes : (rules : Rules) (n at : ℕ) (ps : Parts) → firstLine rules at ps ≡ firstLine (withNodes n rules) at ps
+first-nodes rules n at (last l) = refl
+first-nodes rules n at (part l ls) = rw (line-nodes rules n l)
+
+-- and do not depend on how many nodes there may be
+pub line-at-nodes : (rules : Rules) (n : ℕ) (s : List ℕ) (at : ℕ) → lineAt rules s at ≡ lineAt (withNodes n rules) s at
+unfolding lineAt
+line-at-nodes rules n s at = first-nodes rules n at (split lineFeed (drop at s))
 
 -- one line more: it takes a byte at least, and reading goes on after it or stops with its fault
-pub record OneLine (s : List ℕ) (at : ℕ) (here : LineAt) : Type 0 where
+pub record OneLine (rules : Rules) (s : List ℕ) (at : ℕ) (here : LineAt) : Type 0 where
   pub more : at < here .next
   pub within : here .next ≤ length s
-  pub goes : (rules : Rules) (st : ReadingState) (n : ℕ) → readLines rules st n at (split lineFeed (drop at s))
+  pub goes : (st : ReadingState) (n : ℕ) → readLines rules st n at (split lineFeed (drop at s))
       ≡ cond (eqb (faultOf rules st (here .line)) 0) (readLines rules (stateAfter st (here .line) (here .next)) (n + 1) (here .next) (split lineFeed (drop (here .next) s)))
       (refused (faultOf rules st (here .line)) (n + 1))
 
-cut-line : (s : List ℕ) (at : ℕ) → at < length s → ahead lineFeed (drop at s) ≡ length (drop at s) → OneLine s at (lineAt s at)
+cut-line : (rules : Rules) (s : List ℕ) (at : ℕ) → at < length s → ahead lineFeed (drop at s) ≡ length (drop at s) → OneLine rules s at (lineAt rules s at)
 unfolding readLines faultOf
-cut-line s at h e =
-    rw (line-cut s at (ahead lineFeed (drop at s)) refl e) (record {
+cut-line rules s at h e =
+    rw (line-cut rules s at (ahead lineFeed (drop at s)) refl e) (record {
       more = omega (arith, length-drop at s);
       within = omega (arith, length-drop at s);
-      goes = λ rules st n. rw (split-all lineFeed (drop at s) e, ne-eqb (length (drop at s)) 0 (λ z. omega (arith, length-drop at s)));
+      goes = λ st n. rw (split-all lineFeed (drop at s) e, ne-eqb (length (drop at s)) 0 (λ z. omega (arith, length-drop at s)));
     })
 
-whole-line : (s : List ℕ) (at : ℕ) → at < length s → ahead lineFeed (drop at s) < length (drop at s) → OneLine s at (lineAt s at)
+whole-line : (rules : Rules) (s : List ℕ) (at : ℕ) → at < length s → ahead lineFeed (drop at s) < length (drop at s) → OneLine rules s at (lineAt rules s at)
 unfolding readLines
-whole-line s at h k =
+whole-line rules s at h k =
     let a = ahead lineFeed (drop at s) in
     let q : at + (a + 1) ≡ at + a + 1 = omega arith in
-    rw (line-whole s at a refl k) (record {
+    rw (line-whole rules s at a refl k) (record {
       more = omega arith;
       within = omega (arith, length-drop at s);
-      goes = λ rules st n. rw (split-first lineFeed (drop at s) k, length-take-le a (drop at s) (le-of-lt k), drop-drop, q);
+      goes = λ st n. rw (split-first lineFeed (drop at s) k, length-take-le a (drop at s) (le-of-lt k), drop-drop, q);
     })
 
-pub one-line : (s : List ℕ) (at : ℕ) → at < length s → OneLine s at (lineAt s at)
-one-line s at h = go (ltb (ahead lineFeed (drop at s)) (length (drop at s))) refl
+pub one-line : (rules : Rules) (s : List ℕ) (at : ℕ) → at < length s → OneLine rules s at (lineAt rules s at)
+one-line rules s at h = go (ltb (ahead lineFeed (drop at s)) (length (drop at s))) refl
   where
-    go : (b : Bool) → ltb (ahead lineFeed (drop at s)) (length (drop at s)) ≡ b → OneLine s at (lineAt s at)
-    go true q = whole-line s at h (ltb-true (ahead lineFeed (drop at s)) (length (drop at s)) q)
-    go false q = cut-line s at h (omega (arith, ltb-false (ahead lineFeed (drop at s)) (length (drop at s)) q, ahead-most lineFeed (drop at s)))
+    go : (b : Bool) → ltb (ahead lineFeed (drop at s)) (length (drop at s)) ≡ b → OneLine rules s at (lineAt rules s at)
+    go true q = whole-line rules s at h (ltb-true (ahead lineFeed (drop at s)) (length (drop at s)) q)
+    go false q = cut-line rules s at h (omega (arith, ltb-false (ahead lineFeed (drop at s)) (length (drop at s)) q, ahead-most lineFeed (drop at s)))
 
 -- lines used up
 pub lines-end : (rules : Rules) (st : ReadingState) (n at : ℕ) (s : List ℕ) → length s ≤ at

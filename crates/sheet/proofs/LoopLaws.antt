@@ -32,18 +32,18 @@ read-long rules s h = rw (lt-ltb mostBytes (length s) h)
 
 module _ {rules : Rules} {s : List ℕ} {p : Progress} {tree groups marks : List ℕ} {at : ℕ} (R : Running rules s p tree groups marks at) where
   -- one line more
-  module _ (h : at < length s) {r : Progress} {es gs ms : List ℕ} (w : AfterLine rules (R .st) (lineAt s at .line) (lineAt s at .next) p r es gs ms) where
+  module _ (h : at < length s) {r : Progress} {es gs ms : List ℕ} (w : AfterLine rules (R .st) (lineAt rules s at .line) (lineAt rules s at .next) p r es gs ms) where
     pub running-refused : (r .fault ≡ 0 → ⊥) → readWith rules s ≡ refused (r .fault) (r .line)
     running-refused n =
-        R .left ∙ one-line s at h .goes rules (R .st) (p .line) ∙ rw (← w .fault, ne-eqb (r .fault) 0 n) (ap (refused (r .fault)) (sym (w .counted)))
+        R .left ∙ one-line rules s at h .goes (R .st) (p .line) ∙ rw (← w .fault, ne-eqb (r .fault) 0 n) (ap (refused (r .fault)) (sym (w .counted)))
 
-    pub running-next : r .fault ≡ 0 → Running rules s r es gs ms (lineAt s at .next)
+    pub running-next : r .fault ≡ 0 → Running rules s r es gs ms (lineAt rules s at .next)
     running-next z =
-        let e : faultOf rules (R .st) (lineAt s at .line) ≡ 0 = sym (w .fault) ∙ z in
+        let e : faultOf rules (R .st) (lineAt rules s at .line) ≡ 0 = sym (w .fault) ∙ z in
         record {
-          st = stateAfter (R .st) (lineAt s at .line) (lineAt s at .next);
+          st = stateAfter (R .st) (lineAt rules s at .line) (lineAt rules s at .next);
           held = w .holds e;
-          left = R .left ∙ one-line s at h .goes rules (R .st) (p .line) ∙ rw (eq-eqb (faultOf rules (R .st) (lineAt s at .line)) 0 e, w .counted);
+          left = R .left ∙ one-line rules s at h .goes (R .st) (p .line) ∙ rw (eq-eqb (faultOf rules (R .st) (lineAt rules s at .line)) 0 e, w .counted);
         }
 
   -- no line more

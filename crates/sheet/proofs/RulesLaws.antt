@@ -1,22 +1,23 @@
--- One file read by two rules. Rules that differ in their number of nodes only come to the same, unless the stricter ones give 5; so what
--- stricter rules accept, looser ones accept with the same state.
+-- One file read by two rules of which the second allow more: they come to the same, unless the stricter ones refuse what only the
+-- looser ones allow (`two-rules`). So what stricter rules accept, looser ones accept with the same state.
 use mathlib.Core.Path.{_≡_, refl, sym, _∙_}
 use mathlib.Core.Bool.{Bool, true, false, cond}
 use mathlib.Core.List.{List, [], _∷_}
 use mathlib.Core.Logic.{_⊎_, inl, inr}
-use Prim.Native.Nat.{ℕ, _+_, _≤_}
+use Prim.Native.Nat.{ℕ, _+_, _≤_, _<_}
 use native.Mathlib.Omega.{arith}
-use borrow.Author.Tests.{eqb-true, leb-true, leb-false, lt-leb}
+use borrow.Author.Tests.{eqb-true, leb-true, leb-false}
 use lib.Dec.{eqb, ltb}
 use lib.ListN.{length, length-append}
 use Rattle.text.specs.Parts.{Parts, last, part, split}
 use Rattle.text.specs.Line.{lineFeed}
 use Rattle.sheet.specs.Form.{lineOf}
-use Rattle.sheet.specs.Rules.{Rules, withNodes, Stricter}
+use Rattle.sheet.specs.Rules.{Rules, Stricter, baseRules, earlierRules, sheetRules}
 use Rattle.sheet.specs.Reading.{mostBytes, ReadingState, trees, firstFault, orderFault, isFull, faultOf, stateAfter, nothingRead, ReadingOutcome, accepted, refused, readLines, readWith}
 use Rattle.sheet.specs.declared.Line.{Line}
 use Rattle.sheet.specs.declared.Line.the-variants.{Group, Operator, Lift, Mark, End, Bad}
 use Rattle.sheet.proofs.SoundLaws.{order-none, none-of, bad-fault, group-none, operator-none}
+use Rattle.sheet.proofs.FormLaws.{Forms, forms}
 use Rattle.sheet.proofs.AcceptedLaws.{no-outcome}
 
 -- what holds after so many lines without fault, where n nodes are allowed: while the tree is read, each line is a node
@@ -39,32 +40,37 @@ passed-next rules st lines (Lift p m) after e P = record { within = P .within; c
 passed-next rules st lines (Mark g) after e P = record { within = P .within; counted = λ z. absurd (omega arith) }
 passed-next rules st lines End after e P = record { within = P .within; counted = λ z. absurd (omega arith) }
 
--- ---- rules, and the same with n nodes only
-module _ (rules : Rules) (n : ℕ) (less : n ≤ rules .nodes) where
-  abbrev limited : Rules
-  limited = withNodes n rules
+-- ---- rules and looser ones
+-- what they come to: the same, or the stricter ones refuse the node after their last (5), or a group after their last (2)
+pub data Outcomes (few more : Rules) (o p : ReadingOutcome) : Type 0 where
+  same : o ≡ p → Outcomes few more o p
+  no-node : few .nodes < more .nodes → o ≡ refused 5 (few .nodes + 1) → Outcomes few more o p
+  no-group : few .lastGroup < more .lastGroup → (line : ℕ) → o ≡ refused 2 line → Outcomes few more o p
 
-  -- a line's fault by both: the same, or 5 by the stricter ones, of a line in its place when the tree is full
+module _ (few more : Rules) (h : Stricter few more) where
+  -- a line's fault by both: the same, or 5 by the stricter ones alone, of a line in its place when the tree is full
   abbrev Faults : ReadingState → ℕ → ℕ → Type 0
-  Faults st f g = (f ≡ g) ⊎ ((f ≡ 5) × (orderFault (st .phase) (length (trees (st .entries))) 0 ≡ 0) × (n ≤ length (st .entries)))
+  Faults st f g = (f ≡ g) ⊎ ((f ≡ 5) × (orderFault (st .phase) (length (trees (st .entries))) 0 ≡ 0) × (few .nodes ≤ length (st .entries)) × (few .nodes < more .nodes))
 
   -- of a tree line; `early` says whether it gets 4
   tree-line : (st : ReadingState) (early : Bool) (rest : ℕ)
       → let fault : Rules → ℕ = λ r. firstFault (orderFault (st .phase) (length (trees (st .entries))) 0) (cond early 4 (cond (isFull r st) 5 rest)) in
-      Faults st (fault limited) (fault rules)
-  tree-line st early rest = go early (eqb o 0) refl (isFull limited st) refl
+      Faults st (fault few) (fault more)
+  tree-line st early rest = go early (eqb o 0) refl (isFull few st) refl (isFull more st) refl
     where
       o : ℕ
       o = orderFault (st .phase) (length (trees (st .entries))) 0
 
-      go : (early b : Bool) → eqb o 0 ≡ b → (full : Bool) → isFull limited st ≡ full
-          → Faults st (cond b (cond early 4 (cond full 5 rest)) o) (cond b (cond early 4 (cond (isFull rules st) 5 rest)) o)
-      go early false p full q = inl refl
-      go true true p full q = inl refl
-      go false true p true q = inr (refl, eqb-true o 0 p, leb-true n (length (st .entries)) q)
-      go false true p false q = inl (rw (lt-leb (rules .nodes) (length (st .entries)) (omega (arith, leb-false))))
+      go : (early b : Bool) → eqb o 0 ≡ b → (full : Bool) → isFull few st ≡ full → (full′ : Bool) → isFull more st ≡ full′
+          → Faults st (cond b (cond early 4 (cond full 5 rest)) o) (cond b (cond early 4 (cond full′ 5 rest)) o)
+      go early false p full q full′ r = inl refl
+      go true true p full q full′ r = inl refl
+      go false true p true q true r = inl refl
+      go false true p true q false r = let k = leb-true (few .nodes) (length (st .entries)) q in inr (refl, eqb-true o 0 p, k, omega (arith, leb-false, k))
+      go false true p false q true r = absurd (omega (arith, leb-false, leb-true, h .nodes))
+      go false true p false q false r = inl refl
 
-  faults : (st : ReadingState) (l : Line) → Faults st (faultOf limited st l) (faultOf rules st l)
+  faults : (st : ReadingState) (l : Line) → Faults st (faultOf few st l) (faultOf more st l)
   unfolding faultOf
   faults st Bad = inl refl
   faults st (Group g) = tree-line st false _
@@ -73,43 +79,53 @@ module _ (rules : Rules) (n : ℕ) (less : n ≤ rules .nodes) where
   faults st (Mark g) = inl refl
   faults st End = inl refl
 
-  -- what both come to: the same, or 5 at the line of the node after the n-th
-  abbrev Outcomes : ReadingOutcome → ReadingOutcome → Type 0
-  Outcomes o p = (o ≡ p) ⊎ (o ≡ refused 5 (n + 1))
-
   -- a line with these faults, after which they come to o and p
-  line-outcomes : (st : ReadingState) (lines f g : ℕ) (o p : ReadingOutcome) → Passed n st lines → Faults st f g → (f ≡ 0 → Outcomes o p)
-      → Outcomes (cond (eqb f 0) o (refused f (lines + 1))) (cond (eqb g 0) p (refused g (lines + 1)))
+  line-outcomes : (st : ReadingState) (lines f g : ℕ) (o p : ReadingOutcome) → Passed (few .nodes) st lines → Faults st f g → (f ≡ 0 → Outcomes few more o p)
+      → Outcomes few more (cond (eqb f 0) o (refused f (lines + 1))) (cond (eqb g 0) p (refused g (lines + 1)))
   line-outcomes st lines f g o p P (inl e) next = rw (← e) (go (eqb f 0) refl)
     where
-      go : (b : Bool) → eqb f 0 ≡ b → Outcomes (cond b o (refused f (lines + 1))) (cond b p (refused f (lines + 1)))
+      go : (b : Bool) → eqb f 0 ≡ b → Outcomes few more (cond b o (refused f (lines + 1))) (cond b p (refused f (lines + 1)))
       go true q = next (eqb-true f 0 q)
-      go false q = inl refl
+      go false q = same refl
   line-outcomes st lines f g o p P (inr e) next =
       let k = order-none (st .phase) (length (trees (st .entries))) 0 (e .1) .0 in
-      let z : lines ≡ n = omega (arith, P .counted (omega (arith, k)), P .within, e .2) in
-      inr (rw (e .0, z))
+      let z : lines ≡ few .nodes = omega (arith, P .counted (omega (arith, k)), P .within, e .2) in
+      no-node (e .3) (rw (e .0, z))
 
-  lines-outcomes : (ps : Parts) (st : ReadingState) (lines at : ℕ) → Passed n st lines → Outcomes (readLines limited st lines at ps) (readLines rules st lines at ps)
-  unfolding readLines
-  lines-outcomes (last l) st lines at P = inl refl
-  lines-outcomes (part l ls) st lines at P =
-      line-outcomes st lines (faultOf limited st (lineOf l)) (faultOf rules st (lineOf l)) _ _ P (faults st (lineOf l))
-      (λ e. lines-outcomes ls _ (lines + 1) _ (passed-next limited st lines (lineOf l) _ e P))
+  abbrev LinesOutcomes : Parts → Type 0
+  LinesOutcomes ps = (st : ReadingState) (lines at : ℕ) → Passed (few .nodes) st lines → Outcomes few more (readLines few st lines at ps) (readLines more st lines at ps)
 
-  -- rules that differ in their number of nodes only
-  pub nodes-only : (s : List ℕ) → (readWith (withNodes n rules) s ≡ readWith rules s) ⊎ (readWith (withNodes n rules) s ≡ refused 5 (n + 1))
-  unfolding readWith
-  nodes-only s = go (ltb mostBytes (length s))
+  lines-outcomes : (ps : Parts) → LinesOutcomes ps
+  unfolding readLines faultOf
+  lines-outcomes (last l) st lines at P = same refl
+  lines-outcomes (part l ls) st lines at P = go (lines-outcomes ls) (forms few more (h .lastGroup) l)
     where
-      go : (b : Bool) → Outcomes (cond b (refused 1 0) (readLines limited nothingRead 0 0 (split lineFeed s))) (cond b (refused 1 0) (readLines rules nothingRead 0 0 (split lineFeed s)))
-      go true = inl refl
+      go : LinesOutcomes ls → Forms few more (h .lastGroup) (lineOf few l) (lineOf more l) → Outcomes few more (readLines few st lines at (part l ls)) (readLines more st lines at (part l ls))
+      go later (inl e) =
+          rw (← e) (line-outcomes st lines (faultOf few st (lineOf few l)) (faultOf more st (lineOf few l)) _ _ P (faults st (lineOf few l))
+          (λ z. later _ (lines + 1) _ (passed-next few st lines (lineOf few l) _ z P)))
+      go later (inr e) = no-group (e .0) (lines + 1) (rw (e .1))
+
+  pub two-rules : (s : List ℕ) → Outcomes few more (readWith few s) (readWith more s)
+  unfolding readWith
+  two-rules s = go (ltb mostBytes (length s))
+    where
+      go : (b : Bool) → Outcomes few more (cond b (refused 1 0) (readLines few nothingRead 0 0 (split lineFeed s))) (cond b (refused 1 0) (readLines more nothingRead 0 0 (split lineFeed s)))
+      go true = same refl
       go false = lines-outcomes (split lineFeed s) nothingRead 0 0 (record { within = omega arith; counted = λ z. refl })
 
--- what rules accept, looser rules accept with the same state: rules have nothing but nodes yet
-pub stricter-accepts : (few more : Rules) → Stricter few more → (s : List ℕ) (st : ReadingState) → readWith few s ≡ accepted st → readWith more s ≡ accepted st
-stricter-accepts few more h s st e = go (nodes-only more (few .nodes) (h .nodes) s)
-  where
-    go : (readWith few s ≡ readWith more s) ⊎ (readWith few s ≡ refused 5 (few .nodes + 1)) → readWith more s ≡ accepted st
-    go (inl q) = sym q ∙ e
-    go (inr q) = no-outcome (sym q ∙ e)
+  -- what rules accept, looser rules accept with the same state
+  pub stricter-accepts : (s : List ℕ) (st : ReadingState) → readWith few s ≡ accepted st → readWith more s ≡ accepted st
+  stricter-accepts s st e = go (two-rules s)
+    where
+      go : Outcomes few more (readWith few s) (readWith more s) → readWith more s ≡ accepted st
+      go (same q) = sym q ∙ e
+      go (no-node l q) = no-outcome (sym q ∙ e)
+      go (no-group l line q) = no-outcome (sym q ∙ e)
+
+-- ---- the rules from request to request: request 1 has fewer nodes than 01, request 4 more groups than were there until then
+pub fewer-nodes : Stricter earlierRules baseRules
+fewer-nodes = record { nodes = omega arith; lastGroup = omega arith }
+
+pub more-groups : Stricter earlierRules sheetRules
+more-groups = record { nodes = omega arith; lastGroup = omega arith }

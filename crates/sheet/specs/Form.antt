@@ -1,13 +1,14 @@
 -- Document 01, "The sheet": the forms of its lines. A line of any other bytes is `Bad`.
-use mathlib.Core.Bool.{Bool, cond, _&&_}
+use mathlib.Core.Bool.{Bool, cond}
 use mathlib.Core.List.{List, [], _∷_}
 use mathlib.Core.Option.{Option, some, none}
 use Prim.Native.Nat.{ℕ}
 use lib.Dec.{eqb, leb}
-use Rattle.tree.specs.Tree.{isGroup, union, difference, sign}
+use Rattle.tree.specs.Tree.{isUpTo, union, difference, sign}
 use Rattle.text.specs.Decimal.{decimal}
 use Rattle.text.specs.Parts.{Parts, last, part, split}
 use Rattle.text.specs.Line.{tab}
+use Rattle.sheet.specs.Rules.{Rules}
 use Rattle.sheet.specs.declared.Line.{Line}
 use Rattle.sheet.specs.declared.Line.the-variants.{Group, Operator, Lift, Mark, End, Bad}
 
@@ -44,7 +45,7 @@ mostLevels = 99
 
 -- such levels
 abbrev pub isLevels : ℕ → Bool
-isLevels n = leb 1 n && leb n mostLevels
+isLevels n = isUpTo mostLevels n
 
 -- the letter of a field of one byte; 0, which is no kind's, for any other
 abbrev pub letterOf : List ℕ → ℕ
@@ -52,7 +53,7 @@ letterOf [] = 0
 letterOf (b ∷ []) = b
 letterOf (b ∷ (c ∷ bs)) = 0
 
--- a line with a number that passes a test, as "(1 to 9999)"; `Bad` where the field is no number or the number is out of its range
+-- a line with a number that passes a test, as "(0 to 8190)"; `Bad` where the field is no number or the number is out of its range
 abbrev pub ranged : (ℕ → Bool) → (ℕ → Line) → Option ℕ → Line
 ranged passes form none = Bad
 ranged passes form (some n) = cond (passes n) (form n) Bad
@@ -62,22 +63,23 @@ abbrev pub bare : ℕ → Line
 bare kind =
     cond (eqb kind letterU) (Operator (sign union)) (cond (eqb kind letterD) (Operator (sign difference)) (cond (eqb kind letterE) End Bad))
 
--- "`G` group (1 to 9999)"; "`K` group (1 to 9999): a mark."
-abbrev pub oneNumber : ℕ → Option ℕ → Line
-oneNumber kind n = cond (eqb kind letterG) (ranged isGroup Group n) (cond (eqb kind letterK) (ranged isGroup Mark n) Bad)
+-- "`G` group (1 to 9999)"; "`K` group (1 to 9999): a mark." The last group is the rules'.
+abbrev pub oneNumber : Rules → ℕ → Option ℕ → Line
+oneNumber rules kind n =
+    cond (eqb kind letterG) (ranged (isUpTo (rules .lastGroup)) Group n) (cond (eqb kind letterK) (ranged (isUpTo (rules .lastGroup)) Mark n) Bad)
 
 -- "`L` position (0 to 8190) levels (1 to 99): a lift."
 abbrev pub twoNumbers : ℕ → Option ℕ → Option ℕ → Line
 twoNumbers kind p n = cond (eqb kind letterL) (ranged isPosition (λ p. ranged isLevels (λ n. Lift p n) n) p) Bad
 
--- the form of a line with these fields: a kind alone, with one number or with two. "Decimal fields have no leading zero; nought is
+-- the form of a line with these fields, by the rules: a kind alone, with one number or with two. "Decimal fields have no leading zero; nought is
 -- `0`": `decimal`, of `text` specs/Decimal.antt.
-unfoldable pub formOf : Parts → Line
-formOf (last kind) = bare (letterOf kind)
-formOf (part kind (last f)) = oneNumber (letterOf kind) (decimal f)
-formOf (part kind (part f (last g))) = twoNumbers (letterOf kind) (decimal f) (decimal g)
-formOf (part kind (part f (part g fs))) = Bad
+unfoldable pub formOf : Rules → Parts → Line
+formOf rules (last kind) = bare (letterOf kind)
+formOf rules (part kind (last f)) = oneNumber rules (letterOf kind) (decimal f)
+formOf rules (part kind (part f (last g))) = twoNumbers (letterOf kind) (decimal f) (decimal g)
+formOf rules (part kind (part f (part g fs))) = Bad
 
 -- "fields are parted by one tab": the form of a line, given without its LF
-unfoldable pub lineOf : List ℕ → Line
-lineOf bytes = formOf (split tab bytes)
+unfoldable pub lineOf : Rules → List ℕ → Line
+lineOf rules bytes = formOf rules (split tab bytes)

@@ -128,8 +128,8 @@ unfoldable pub readLines : Rules → ReadingState → ℕ → ℕ → Parts → 
 readLines rules st n at (last l) =
     cond (eqb (length l) 0) (cond (eqb (st .phase) ended) (accepted st) (refused 10 (n + 1))) (refused 2 (n + 1))
 readLines rules st n at (part l ls) =
-    cond (eqb (faultOf rules st (lineOf l)) 0) (readLines rules (stateAfter st (lineOf l) (at + length l + 1)) (n + 1) (at + length l + 1) ls)
-    (refused (faultOf rules st (lineOf l)) (n + 1))
+    cond (eqb (faultOf rules st (lineOf rules l)) 0) (readLines rules (stateAfter st (lineOf rules l) (at + length l + 1)) (n + 1) (at + length l + 1) ls)
+    (refused (faultOf rules st (lineOf rules l)) (n + 1))
 
 -- reading a file by these rules: "1 (line 0) over 60,000 bytes", then its lines. "An empty sheet gets 10 at line 1": its one part is
 -- empty.

@@ -1,23 +1,35 @@
 -- What reading may differ in, from one request of 02 to the next and from one file to another.
 use Prim.Native.Nat.{ℕ, _≤_}
+use Rattle.tree.specs.Tree.{mostGroup}
 
 pub record Rules : Type 0 where
   -- how many nodes the tree may have
   pub nodes : ℕ
+  -- the last number that a group may have
+  pub lastGroup : ℕ
 
--- the same rules with another number of nodes, which is all that rules have yet
+-- the same rules with another number of nodes
 abbrev pub withNodes : ℕ → Rules → Rules
-withNodes n rules = record { nodes = n }
+withNodes n rules = record { nodes = n; lastGroup = rules .lastGroup }
+
+-- the same rules with another last group
+abbrev pub withLastGroup : ℕ → Rules → Rules
+withLastGroup g rules = record { nodes = rules .nodes; lastGroup = g }
 
 -- `more` allow whatever `few` allow
 pub record Stricter (few more : Rules) : Type 0 where
   pub nodes : few .nodes ≤ more .nodes
+  pub lastGroup : few .lastGroup ≤ more .lastGroup
 
 -- the rules of 01 for a sheet, before request 1: "the tree, at most 1,023 nodes and 8 different groups" (of groups it is `mostGroups`,
 -- of `tree` specs/Tree.antt)
 abbrev pub baseRules : Rules
-baseRules = record { nodes = 1023 }
+baseRules = record { nodes = 1023; lastGroup = 9999 }
 
--- today's; request 1: "The tree of a sheet is limited to 255 nodes"
+-- those until request 4, with request 1: "The tree of a sheet is limited to 255 nodes"
+abbrev pub earlierRules : Rules
+earlierRules = withNodes 255 baseRules
+
+-- today's, with the groups that trees have
 abbrev pub sheetRules : Rules
-sheetRules = record { nodes = 255 }
+sheetRules = withLastGroup mostGroup earlierRules

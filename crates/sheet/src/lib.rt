@@ -81,7 +81,7 @@ fn bare_line(kind: u8) -> Line
 
 // The line of a kind and one number.
 fn one_number(kind: u8, n: u16) -> Line
-    ensures { λ r. ⌜ ((o : Option ℕ) → n ≡ capped o → r ≡ oneNumber kind o) ⌝ }
+    ensures { λ r. ⌜ ((o : Option ℕ) → n ≡ capped o → r ≡ oneNumber sheetRules kind o) ⌝ }
 {
     if kind == b'G' {
         if tree::is_group(n) {
@@ -119,7 +119,7 @@ fn two_numbers(kind: u8, p: u16, n: u16) -> Line
 
 // The line of a kind and what stands behind the tab after it.
 fn fielded_line(kind: u8, rest: &[u8]) -> Line
-    ensures { λ r. ⌜ r ≡ formOf (part (kind ∷ []) (split tab (now (rest .entry)))) ⌝ }
+    ensures { λ r. ⌜ r ≡ formOf sheetRules (part (kind ∷ []) (split tab (now (rest .entry)))) ⌝ }
 {
     let t = text::find(rest, text::TAB);
     if t == rest.len() {
@@ -132,7 +132,7 @@ fn fielded_line(kind: u8, rest: &[u8]) -> Line
 
 // The form of a line, given without its LF.
 fn line_of(bytes: &[u8]) -> Line
-    ensures { λ r. ⌜ r ≡ lineOf (now (bytes .entry)) ⌝ }
+    ensures { λ r. ⌜ r ≡ lineOf sheetRules (now (bytes .entry)) ⌝ }
 {
     if text::find(bytes, text::TAB) != 1 {
         return Line::Bad;
@@ -145,7 +145,7 @@ fn line_of(bytes: &[u8]) -> Line
 
 // The line at a byte of a sheet, and the byte after it.
 pub fn line_at(sheet: &[u8], at: usize) -> LineAt
-    ensures { λ r. ⌜ r ≡ lineAt (now (sheet .entry)) at ⌝ }
+    ensures { λ r. ⌜ r ≡ lineAt sheetRules (now (sheet .entry)) at ⌝ }
 {
     if sheet.len() <= at {
         return LineAt {

@@ -9,9 +9,13 @@ use lib.Dec.{T, eqb, leb}
 abbrev pub mostGroup : ℕ
 mostGroup = 9999
 
--- the same as a test
+-- one of the numbers 1 to `last`
+abbrev pub isUpTo : ℕ → ℕ → Bool
+isUpTo last n = leb 1 n && leb n last
+
+-- a group's number
 abbrev pub isGroup : ℕ → Bool
-isGroup g = leb 1 g && leb g mostGroup
+isGroup g = isUpTo mostGroup g
 
 -- "A tree holds 1 to 8,191 nodes."
 abbrev pub mostNodes : ℕ

@@ -23,7 +23,7 @@ returns : tie.Need-returns
 returns c =
     let args = c .before .before .before .before .before .args in
     let find = c .before .before .before .find in
-    c .one-number .ensures (decimal (args .rest .now)) (c .before .number .ensures) ∙ sym (fields-one _ _ (sym (find .ensures .0) ∙ c .before .before .if1 .taken))
+    c .one-number .ensures (decimal (args .rest .now)) (c .before .number .ensures) ∙ sym (fields-one _ _ _ (sym (find .ensures .0) ∙ c .before .before .if1 .taken))
 
 slice-aggregate-number : tie.Need-slice-aggregate-number
 slice-aggregate-number c = simp length-take (omega arith)
@@ -55,7 +55,7 @@ returns-2 c =
     let find = c .before .before .before .before .before .before .find in
     let number2 = c .before .before .before .number2 in
     let f = args .rest .now in let t = find .result in
-    c .two-numbers .ensures (decimal (take t f)) (decimal (drop (t + 1) f)) (number2 .ensures) (rw rest-all at (c .before .number3 .ensures)) ∙ sym (fields-two _ f t (find .ensures .0) (omega arith))
+    c .two-numbers .ensures (decimal (take t f)) (decimal (drop (t + 1) f)) (number2 .ensures) (rw rest-all at (c .before .number3 .ensures)) ∙ sym (fields-two _ _ f t (find .ensures .0) (omega arith))
 
 pub fielded-line-spec : {M : Type 1} → statement M
 fielded-line-spec =

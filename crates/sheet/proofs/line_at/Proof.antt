@@ -11,7 +11,7 @@ use Rattle.sheet.proofs.line_at.Statement.{statement}
 use Rattle.sheet.proofs.line_at.Tie as tie
 
 returns : tie.Need-returns
-returns c = sym (line-past _ _ (c .if1 .taken))
+returns c = sym (line-past _ _ _ (c .if1 .taken))
 
 sub-rest : tie.Need-sub-rest
 sub-rest c = search needs
@@ -29,7 +29,7 @@ add-t12 : tie.Need-add-t12
 add-t12 c = search needs
 
 returns-2 : tie.Need-returns-2
-returns-2 c = sym (line-cut _ _ _ (rw rest-all at (c .before .find .ensures .0)) (rw rest-all at (c .if2 .taken)))
+returns-2 c = sym (line-cut _ _ _ _ (rw rest-all at (c .before .find .ensures .0)) (rw rest-all at (c .if2 .taken)))
 
 slice-aggregate-line-of : tie.Need-slice-aggregate-line-of
 slice-aggregate-line-of c = rw rest-all (sym (length-take-le _ _ (omega (arith, rw rest-all at (c .before .before .find .ensures .1)))))
@@ -49,7 +49,7 @@ returns-3 c =
     let find = c .before .before .before .find in
     let s = args .sheet .now in let at = args .at in let k = find .result in
     ap (λ (l : Line). record { line = l; next = at + k + 1 }) (rw rest-all at (c .line-of .ensures))
-    ∙ sym (line-whole s at k (rw rest-all at (find .ensures .0)) (omega (arith, rw rest-all at (find .ensures .1), rw rest-all at (c .before .before .if2 .left))))
+    ∙ sym (line-whole _ s at k (rw rest-all at (find .ensures .0)) (omega (arith, rw rest-all at (find .ensures .1), rw rest-all at (c .before .before .if2 .left))))
 
 pub line-at-spec : {M : Type 1} → statement M
 line-at-spec =

@@ -14,7 +14,7 @@ find-requires c κs = search needs
 returns : tie.Need-returns
 returns c =
     let args = c .before .before .before .args in
-    sym (line-none _ (ahead-most tab (args .bytes .now)) (λ e. c .if1 .taken (c .before .find .ensures .0 ∙ e)))
+    sym (line-none _ _ (ahead-most tab (args .bytes .now)) (λ e. c .if1 .taken (c .before .find .ensures .0 ∙ e)))
 
 shared-slice-read-bare-line : tie.Need-shared-slice-read-bare-line
 shared-slice-read-bare-line c = search needs
@@ -26,7 +26,7 @@ returns-2 : tie.Need-returns-2
 returns-2 c =
     let find = c .before .before .before .before .find in
     let if1 = c .before .before .before .if1 in
-    c .bare-line .ensures ∙ sym (line-bare _ (sym (find .ensures .0) ∙ if1 .left) (c .before .before .if2 .taken))
+    c .bare-line .ensures ∙ sym (line-bare _ _ (sym (find .ensures .0) ∙ if1 .left) (c .before .before .if2 .taken))
 
 shared-slice-read-fielded-line : tie.Need-shared-slice-read-fielded-line
 shared-slice-read-fielded-line c = search needs
@@ -47,7 +47,7 @@ returns-3 : tie.Need-returns-3
 returns-3 c =
     let find = c .before .before .before .before .before .find in
     let if1 = c .before .before .before .before .if1 in
-    rw rest-all at (c .fielded-line .ensures) ∙ sym (line-fields _ (sym (find .ensures .0) ∙ if1 .left) (omega arith))
+    rw rest-all at (c .fielded-line .ensures) ∙ sym (line-fields _ _ (sym (find .ensures .0) ∙ if1 .left) (omega arith))
 
 pub line-of-spec : {M : Type 1} → statement M
 line-of-spec =

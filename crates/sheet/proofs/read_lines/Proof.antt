@@ -7,7 +7,7 @@ use Rattle.sheet.specs.Rules.{withNodes, sheetRules}
 use Rattle.sheet.specs.Reading.{mostBytes}
 use Rattle.sheet.specs.InnerLines.{lineAt}
 use Rattle.sheet.specs.InnerHolding.{AfterLine}
-use Rattle.sheet.proofs.LineAtLaws.{line-at-range, OneLine, one-line}
+use Rattle.sheet.proofs.LineAtLaws.{line-at-range, line-at-nodes, OneLine, one-line}
 use Rattle.sheet.proofs.HoldLaws.{tree-long, marks-long, groups-long, holds-gives}
 use Rattle.sheet.proofs.LoopLaws.{Running, running-nothing-read, read-long, running-refused, running-next, running-accepted, running-open}
 use Rattle.sheet.proofs.read_lines.Statement.{statement}
@@ -19,28 +19,27 @@ Inv-loop sheet tree₀ marks₀ p₀ groups₀ at₀ tree marks p groups at = (l
 abbrev μ-loop : tie.MeasureT-loop
 μ-loop sheet tree₀ marks₀ p₀ groups₀ at₀ tree marks p groups at = length sheet - at
 
--- after a line's step: the line at the byte, and what the step did
-one-read : (c : tie.After-step Inv-loop μ-loop) → OneLine (c .before .before .before .before .before .before .before .before .before .before .before .args .sheet .now) (c .before .before .before .before .before .before .loop .at) (c .before .before .before .before .line-at .result)
+-- after a line's step: the line at the byte, by the rules with as many nodes as there is room for, and what the step did
+line-is : (c : tie.After-step Inv-loop μ-loop) → c .before .before .before .before .line-at .result
+    ≡ lineAt (withNodes (length (c .before .before .before .before .before .before .before .before .before .before .before .args .tree .now)) sheetRules) (c .before .before .before .before .before .before .before .before .before .before .before .args .sheet .now) (c .before .before .before .before .before .before .loop .at)
+line-is c = c .before .before .before .before .line-at .ensures ∙ line-at-nodes sheetRules _ _ _
+
+one-read : (c : tie.After-step Inv-loop μ-loop) → OneLine (withNodes (length (c .before .before .before .before .before .before .before .before .before .before .before .args .tree .now)) sheetRules) (c .before .before .before .before .before .before .before .before .before .before .before .args .sheet .now) (c .before .before .before .before .before .before .loop .at) (c .before .before .before .before .line-at .result)
 one-read c =
     let args = c .before .before .before .before .before .before .before .before .before .before .before .args in
     let loop = c .before .before .before .before .before .before .loop in
     let loop-test = c .before .before .before .before .before .loop-test in
-    let line-at = c .before .before .before .before .line-at in
-    rw (← line-at .ensures) at (one-line (args .sheet .now) (loop .at) (loop-test .taken))
+    rw (← line-is c) at (one-line (withNodes (length (args .tree .now)) sheetRules) (args .sheet .now) (loop .at) (loop-test .taken))
 
 stepped : (c : tie.After-step Inv-loop μ-loop)
     → let s = c .before .before .before .before .before .before .before .before .before .before .before .args .sheet .now in let at = c .before .before .before .before .before .before .loop .at in
-    AfterLine (withNodes (length (c .before .before .before .before .before .before .before .before .before .before .before .args .tree .now)) sheetRules) (c .before .before .before .before .before .before .loop .inv .3 .st) (lineAt s at .line) (lineAt s at .next) (c .before .before .before .before .before .before .loop .p) (c .step .result)
+    let rules = withNodes (length (c .before .before .before .before .before .before .before .before .before .before .before .args .tree .now)) sheetRules in
+    AfterLine rules (c .before .before .before .before .before .before .loop .inv .3 .st) (lineAt rules s at .line) (lineAt rules s at .next) (c .before .before .before .before .before .before .loop .p) (c .step .result)
     (c .step .last .1 .1 .1 .0) (c .step .last .1 .1 .1 .1 .0) (c .step .last .1 .1 .1 .1 .1 .0)
 stepped c =
-    let args = c .before .before .before .before .before .before .before .before .before .before .before .args in
     let loop = c .before .before .before .before .before .before .loop in
-    let line-at = c .before .before .before .before .line-at in
-    let s = args .sheet .now in
-    let at = loop .at in
     let R = loop .inv .3 in
-    let e = line-at .ensures in
-    rw e at (c .step .ensures _ (R .st) (rw e (line-at-range s at)) (R .held))
+    rw (line-is c) at (c .step .ensures _ (R .st) (rw (line-is c) (line-at-range _ (omega arith) _ (loop .at))) (R .held))
 
 marks-were : (c : tie.After-step Inv-loop μ-loop) → length (c .before .before .before .before .before .before .loop .marks) ≡ length (c .before .before .before .before .before .before .before .before .before .before .before .args .marks .now)
 marks-were c =
@@ -99,12 +98,11 @@ loop-again : tie.Need-loop-again Inv-loop μ-loop
 loop-again c =
     let loop = c .before .before .before .before .before .before .before .before .before .before .before .before .before .loop in
     let loop-test = c .before .before .before .before .before .before .before .before .before .before .before .before .loop-test in
-    let line-at = c .before .before .before .before .before .before .before .before .before .before .before .line-at in
     let before = c .before .before .before .before .before .before .before in (
       loop .inv .0,
       one-read before .within,
       omega (arith, one-read before .more, stepped before .counted, loop .inv .2),
-      rw (line-at .ensures) (running-next (loop .inv .3) (loop-test .taken) (stepped before) (c .if2 .left)),
+      rw (line-is before) (running-next (loop .inv .3) (loop-test .taken) (stepped before) (c .if2 .left)),
     )
 
 same-length-3 : tie.Need-same-length-3 Inv-loop μ-loop
