@@ -13,22 +13,7 @@ use Rattle.key.specs.InnerKeyOf.{keyBy, keyWith, keyOf}
 pub same-key : (few more : Rules) → Stricter few more → (s : List ℕ) (st : ReadingState) → readWith few s ≡ accepted st → keyWith few s ≡ keyWith more s
 same-key few more h s st e = ap keyBy (e ∙ sym (stricter-accepts few more h s st e))
 
--- ---- request 1
--- "A sheet within the new limit gets the key it had": one that the rules with request 1 accept has the key that 01's gave it.
-pub keeps-key : (s : List ℕ) (st : ReadingState) → readWith earlierRules s ≡ accepted st → keyWith earlierRules s ≡ keyWith baseRules s
-keeps-key = same-key earlierRules baseRules fewer-nodes
-
--- So has one that they refuse, its `NO` line, unless that is "5 .. at the 256th".
-pub keeps-unless-5 : (s : List ℕ) → (keyWith earlierRules s ≡ keyWith baseRules s) ⊎ (readWith earlierRules s ≡ refused 5 (earlierRules .nodes + 1))
-keeps-unless-5 s = go (two-rules earlierRules baseRules fewer-nodes s)
-  where
-    go : Outcomes earlierRules baseRules (readWith earlierRules s) (readWith baseRules s) → (keyWith earlierRules s ≡ keyWith baseRules s) ⊎ (readWith earlierRules s ≡ refused 5 (earlierRules .nodes + 1))
-    go (same e) = inl (ap keyBy e)
-    go (no-node l e) = inr e
-    go (no-group l line e) = absurd (omega (arith, l))
-
--- ---- request 4
--- "A user with old sheets, accepted until now, sees the old keys."
+-- Request 4: "A user with old sheets, accepted until now, sees the old keys."
 pub keeps-old-key : (s : List ℕ) (st : ReadingState) → readWith earlierRules s ≡ accepted st → keyOf s ≡ keyWith earlierRules s
 keeps-old-key s st e = sym (same-key earlierRules sheetRules more-groups s st e)
 
@@ -40,3 +25,17 @@ keeps-unless-2 s = go (two-rules earlierRules sheetRules more-groups s)
     go (same e) = inl (ap keyBy (sym e))
     go (no-node l e) = absurd (omega (arith, l))
     go (no-group l line e) = inr (line, e)
+
+-- Request 1: "A sheet within the new limit gets the key it had": one that the rules with that limit accept has, to this day, the key
+-- that 01's gave it.
+pub keeps-key : (s : List ℕ) (st : ReadingState) → readWith earlierRules s ≡ accepted st → keyOf s ≡ keyWith baseRules s
+keeps-key s st e = keeps-old-key s st e ∙ same-key earlierRules baseRules fewer-nodes s st e
+
+-- By these rules so has one that they refuse, its `NO` line, unless that is "5 .. at the 256th".
+pub keeps-unless-5 : (s : List ℕ) → (keyWith earlierRules s ≡ keyWith baseRules s) ⊎ (readWith earlierRules s ≡ refused 5 (earlierRules .nodes + 1))
+keeps-unless-5 s = go (two-rules earlierRules baseRules fewer-nodes s)
+  where
+    go : Outcomes earlierRules baseRules (readWith earlierRules s) (readWith baseRules s) → (keyWith earlierRules s ≡ keyWith baseRules s) ⊎ (readWith earlierRules s ≡ refused 5 (earlierRules .nodes + 1))
+    go (same e) = inl (ap keyBy e)
+    go (no-node l e) = inr e
+    go (no-group l line e) = absurd (omega (arith, l))

@@ -1,5 +1,6 @@
--- The entries of a tree's list are groups and operators, so a pass with a stack goes through: the laws of the loops of `eval` and `holding`.
-use mathlib.Core.Path.{_≡_, refl, sym, ap, ap₂, subst, _∙_}
+-- The entries of a tree's list are groups and operators, so a pass with a stack goes through: the laws of the loop of `holding`, and of
+-- the entries in that of `eval`.
+use mathlib.Core.Path.{_≡_, refl, sym, ap, subst, _∙_}
 use mathlib.Core.Bool.{Bool, true, false}
 use mathlib.Core.Logic.{_⊎_, inl, inr}
 use mathlib.Core.List.{List, [], _∷_, _++_}
@@ -9,11 +10,10 @@ use lib.Dec.{T, ltb}
 use borrow.Author.Tests.{ltb-true, ltb-false}
 use lib.ListN.{length, getD, set, length-append, List·getD-append}
 use lib.Seq.{getD-append-add}
-use Rattle.tree.specs.Tree.{Operator, union, difference, sign, Tree, leaf, node, isGroup, mostGroup, postfix, size, apply, selects}
+use Rattle.tree.specs.Tree.{Operator, union, sign, Tree, leaf, node, isGroup, postfix}
 use Rattle.tree.specs.InnerPass.{fold}
 use Rattle.tree.proofs.TreeLaws.{group-most, sign-least}
 use Rattle.tree.proofs.PassLaws.{Passing, passing-group, passing-operator, passing-two, passing-end}
-use Rattle.table.specs.InnerTable.{operatorOf}
 
 -- a number that is a group's or an operator's
 abbrev Known : ℕ → Type 0
@@ -50,21 +50,16 @@ operator-above : (x : ℕ) → Known x → sign union ≤ x → (o : Operator) �
 operator-above x (inl h) l = absurd (omega (arith, group-most x h))
 operator-above x (inr p) l = p
 
-pub operator-of : (x : ℕ) (o : Operator) → x ≡ sign o → operatorOf x ≡ o
-operator-of x union e = ap operatorOf e
-operator-of x difference e = ap operatorOf e
+-- ---- an entry of a list that is the tree's
+module _ (list : List ℕ) (t : Tree) (e : list ≡ postfix t) (i : ℕ) (h : i < length list) where
+  entry : Known (getD list i 0)
+  entry = subst KnownAll (sym e) (known-entries t) i h
 
--- evaluation is the pass with these values
-abbrev pub leafValue : (ℕ → Bool) → ℕ → (g : ℕ) → T (isGroup g) → Bool
-leafValue v i g h = v g
+  pub group-at : getD list i 0 < sign union → T (isGroup (getD list i 0))
+  group-at = group-below (getD list i 0) entry
 
-abbrev pub nodeValue : ℕ → Operator → Bool → Bool → Bool
-nodeValue i o x y = apply o x y
-
-pub fold-selects : (v : ℕ → Bool) (i : ℕ) (t : Tree) → fold (leafValue v) nodeValue i t ≡ selects v t
-unfolding fold selects
-fold-selects v i (leaf g h) = refl
-fold-selects v i (node o l r) = ap₂ (apply o) (fold-selects v i l) (fold-selects v (i + size l) r)
+  pub operator-at : sign union ≤ getD list i 0 → (o : Operator) × (getD list i 0 ≡ sign o)
+  operator-at = operator-above (getD list i 0) entry
 
 -- ---- the loop's turns, at a list that is the tree's
 module _ {A : Type 0} (atLeaf : ℕ → (g : ℕ) → T (isGroup g) → A) (atNode : ℕ → Operator → A → A → A) (z : A) (list : List ℕ) (t : Tree) (e : list ≡ postfix t) where
@@ -74,29 +69,22 @@ module _ {A : Type 0} (atLeaf : ℕ → (g : ℕ) → T (isGroup g) → A) (atNo
   in-list : (i : ℕ) → i < length list → i < length (postfix t)
   in-list i h = subst (λ (xs : List ℕ). i < length xs) e h
 
-  entry : (i : ℕ) → i < length list → Known (getD list i 0)
-  entry i h = subst Known (at-list i) (known-entries t i (in-list i h))
-
-  -- a leaf's number is a group's
-  pub turn-leaf : (i : ℕ) → i < length list → getD list i 0 < sign union → getD list i 0 ≤ mostGroup
-  turn-leaf i h l = group-most (getD list i 0) (group-below (getD list i 0) (entry i h) l)
-
   pub turn-group : (i : ℕ) (a : List A) (k : ℕ) (b : A) → i < length list → getD list i 0 < sign union → k < length a
       → ((h : T (isGroup (getD list i 0))) → b ≡ atLeaf i (getD list i 0) h) → Passing atLeaf atNode z t i a k → Passing atLeaf atNode z t (i + 1) (set a k b) (k + 1)
   turn-group i a k b h l r v p =
-      let g = group-below (getD list i 0) (entry i h) l in
+      let g = group-at list t e i h l in
       passing-group atLeaf atNode z t i a k (getD list i 0) g b (in-list i h) (at-list i) r (v g) p
 
   pub turn-operator : (i : ℕ) (a : List A) (k : ℕ) (b : A) → i < length list → sign union ≤ getD list i 0 → k ≤ length a
       → ((o : Operator) → getD list i 0 ≡ sign o → b ≡ atNode i o (getD a (k - 2) z) (getD a (k - 1) z))
       → Passing atLeaf atNode z t i a k → Passing atLeaf atNode z t (i + 1) (set a (k - 2) b) (k - 1)
   turn-operator i a k b h l r v p =
-      let o = operator-above (getD list i 0) (entry i h) l in
+      let o = operator-at list t e i h l in
       let q = at-list i ∙ o .1 in
       passing-operator atLeaf atNode z t i a k (o .0) b (in-list i h) q (passing-two atLeaf atNode z t i a k (o .0) (in-list i h) q p) r (v (o .0) (o .1)) p
 
   pub turn-two : (i : ℕ) (a : List A) (k : ℕ) → i < length list → sign union ≤ getD list i 0 → Passing atLeaf atNode z t i a k → 2 ≤ k
-  turn-two i a k h l p = let o = operator-above (getD list i 0) (entry i h) l in passing-two atLeaf atNode z t i a k (o .0) (in-list i h) (at-list i ∙ o .1) p
+  turn-two i a k h l p = let o = operator-at list t e i h l in passing-two atLeaf atNode z t i a k (o .0) (in-list i h) (at-list i ∙ o .1) p
 
   pub turn-end : (i : ℕ) (a : List A) (k : ℕ) → length list ≤ i → Passing atLeaf atNode z t i a k → getD a 0 z ≡ fold atLeaf atNode 0 t
   turn-end i a k h p = passing-end atLeaf atNode z t i a k (subst (λ (xs : List ℕ). length xs ≤ i) e h) p

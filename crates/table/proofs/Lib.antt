@@ -1,4 +1,4 @@
 -- The laws of the definitions in specs/, for this crate and those above it.
 pub mod TableLaws
-mod RowLaws
 pub mod EntryLaws
+mod EvalLaws

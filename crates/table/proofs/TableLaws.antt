@@ -4,9 +4,9 @@ use mathlib.Core.Path.{_≡_, refl, sym, ap, ap₂, fun-ext, _∙_}
 use mathlib.Core.Bool.{Bool, true, false, cond, _||_, true≢false, false≢true}
 use mathlib.Core.List.{List, [], _∷_, _++_}
 use Prim.Native.Nat.{ℕ, zero, suc, _+_, _*_, _/_, _%_, _^_, _<_, _≤_}
-use native.Mathlib.Nat.{mul-assoc, mul-comm, pow-suc}
+use native.Mathlib.Nat.{mul-assoc, mul-comm, pow-suc, div-one}
 use native.Mathlib.Omega.{arith}
-use lib.Pow.{pow-mono}
+use lib.Pow.{pow-mono, shr-shr}
 use lib.Dec.{eqb}
 use borrow.Author.Tests.{eqb-true, eqb-false, eq-eqb, ne-eqb}
 use lib.ListN.{length, getD, drop, drop-of-length-le}
@@ -15,7 +15,7 @@ use Rattle.tree.specs.InnerGroups.{Distinct}
 use Rattle.tree.proofs.TreeLaws.{selects-agree, selects-nothing, equivalent-selects, selects-equivalent}
 use Rattle.tree.proofs.GroupLaws.{is-in-here, in-later}
 use Rattle.tree.proofs.PassLaws.{here}
-use Rattle.table.specs.InnerTable.{rowCount, filling, valueAt, tabulate, table}
+use Rattle.table.specs.InnerTable.{rowCount, filling, valueAt, tabulate, table, IsPlace}
 
 -- the row of a filling v: its bit k is 1 where v has group k of the list in
 unfoldable pub rowOf : (ℕ → Bool) → List ℕ → ℕ
@@ -143,16 +143,30 @@ table-law gs t u h p q = record {
       ∙ sym (selects-row gs u (record { rows = λ i l. table-at gs u i (omega (arith, rows-most (length gs) h)) }) q v));
 }
 
--- ---- the search for a group in a row
-module _ (gs : List ℕ) (i bits g : ℕ) where
-  pub filling-here : i < length gs → g ≡ getD gs i 0 → filling (drop i gs) bits g ≡ eqb (bits % 2) 1
-  unfolding filling
-  filling-here h e = rw (here gs i h, eq-eqb g (getD gs i 0) e)
+-- ---- the search for a group's place
+module _ (gs : List ℕ) (g : ℕ) where
+  -- a row says of the group what its bits from i on say of it among the groups from i on
+  abbrev pub Past : ℕ → Type 0
+  Past i = (row : ℕ) → filling (drop i gs) (row / 2 ^ i) g ≡ filling gs row g
 
-  pub filling-on : i < length gs → (g ≡ getD gs i 0 → ⊥) → filling (drop i gs) bits g ≡ filling (drop (i + 1) gs) (bits / 2) g
-  unfolding filling
-  filling-on h e = rw (here gs i h, ne-eqb g (getD gs i 0) e)
+  pub past-none : Past 0
+  past-none row = ap (λ (bits : ℕ). filling gs bits g) (div-one row)
 
-  pub filling-none : length gs ≤ i → filling (drop i gs) bits g ≡ false
+  pub past-more : (i : ℕ) → i < length gs → (g ≡ getD gs i 0 → ⊥) → Past i → Past (i + 1)
   unfolding filling
-  filling-none h = rw (drop-of-length-le gs h)
+  past-more i h n p row = rw (← shr-shr row i 1) (rw (here gs i h, ne-eqb g (getD gs i 0) n) at (p row))
+
+  pub place-here : (i : ℕ) → i < length gs → i < mostGroups → g ≡ getD gs i 0 → Past i → IsPlace gs g i
+  unfolding filling
+  place-here i h l e p = record { small = omega arith; says = λ row r. rw (here gs i h, eq-eqb g (getD gs i 0) e) at (p row) }
+
+  -- no row has the bit after the last
+  no-place : ((row : ℕ) → row < rowCount → filling gs row g ≡ false) → IsPlace gs g mostGroups
+  no-place f = record { small = omega arith; says = λ row h. ne-eqb (row / 256 % 2) 1 (λ e. omega arith) ∙ sym (f row h) }
+
+  pub place-end : (i : ℕ) → length gs ≤ i → Past i → IsPlace gs g mostGroups
+  unfolding filling
+  place-end i h p = no-place (λ row r. sym (rw (drop-of-length-le gs h) at (p row)))
+
+  pub place-last : (i : ℕ) → i ≡ mostGroups → Past i → IsPlace gs g mostGroups
+  place-last i e p = no-place (λ row r. let z : row / 256 ≡ 0 = omega arith in sym (rw (e, z) at (p row)) ∙ filling-zero (drop mostGroups gs) g)

@@ -2,10 +2,10 @@
 use mathlib.Core.Path.{_≡_}
 use mathlib.Core.Bool.{Bool, false, cond}
 use mathlib.Core.List.{List, [], _∷_}
-use Prim.Native.Nat.{ℕ, zero, suc, _/_, _%_, _≤_}
+use Prim.Native.Nat.{ℕ, zero, suc, _/_, _%_, _^_, _≤_, _<_}
 use lib.Dec.{eqb}
 use lib.ListN.{length, getD}
-use Rattle.tree.specs.Tree.{Operator, union, difference, sign, Tree, postfix, mostNodes, selects}
+use Rattle.tree.specs.Tree.{Operator, union, difference, sign, Tree, postfix, mostNodes, mostGroups, selects}
 
 -- "256 rows"
 abbrev pub rowCount : ℕ
@@ -41,3 +41,12 @@ operatorOf x = cond (eqb x (sign union)) union difference
 -- the list is a tree's, of 01's size
 abbrev pub Listed : List ℕ → Type 0
 Listed list = (t : Tree) × (list ≡ postfix t) × (length list ≤ mostNodes)
+
+-- p is the bit of a row that says whether the group g is in
+pub record IsPlace (gs : List ℕ) (g p : ℕ) : Type 0 where
+  pub small : p ≤ mostGroups
+  pub says : (row : ℕ) → row < rowCount → eqb (row / 2 ^ p % 2) 1 ≡ filling gs row g
+
+-- these are the places of a list's entries
+pub record ArePlaces (list groups places : List ℕ) : Type 0 where
+  pub each : (i : ℕ) → i < length list → IsPlace groups (getD list i 0) (getD places i 0)

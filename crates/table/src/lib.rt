@@ -1,49 +1,46 @@
 // The truth table of a tree over a list of groups.
 ghost use mathlib.Core.Path.{_≡_};
-ghost use mathlib.Core.Bool.{false};
-ghost use Prim.Native.Nat.{ℕ, _≤_};
-ghost use lib.ListN.{getD};
-ghost use Rattle.tree.specs.Tree.{Tree, mostGroup, postfix, apply};
-ghost use Rattle.table.specs.InnerTable.{filling, valueAt, table, operatorOf, Listed};
+ghost use mathlib.Core.List.{List};
+ghost use Prim.Native.Nat.{ℕ, _≤_, _<_};
+ghost use lib.ListN.{length};
+ghost use Rattle.tree.specs.Tree.{Tree, mostNodes, postfix, apply};
+ghost use Rattle.table.specs.InnerTable.{rowCount, valueAt, table, operatorOf, Listed, IsPlace, ArePlaces};
 
 pub const ROWS: usize = 256;
 
-// Whether the group is in at this row.
-fn in_row(groups: &[u16], row: usize, g: u16) -> bool
-    ensures { λ r. ⌜ r ≡ filling (now (groups .entry)) row g ⌝ }
+// The bit after the last that a row has.
+const NO_PLACE: u8 = tree::MOST_GROUPS as u8;
+
+// The bit of a row that says whether the group is in; for a group that is not among the eight, a bit that no row has.
+fn place(groups: &[u16], g: u16) -> u8
+    ensures { λ r. ⌜ IsPlace (now (groups .entry)) g r ⌝ }
 {
-    let mut bits = row;
-    let mut i = 0;
-    while i < groups.len() {
-        if g == groups[i] {
-            return bits % 2 == 1;
+    let mut i: u8 = 0;
+    while i < NO_PLACE {
+        if groups.len() <= i as usize {
+            return NO_PLACE;
         }
-        bits = bits / 2;
+        if g == groups[i as usize] {
+            return i;
+        }
         i += 1;
     }
-    false
+    NO_PLACE
 }
 
-// One more than the last group.
-const NUMBERS: usize = 10000;
-
-// Which groups are in at this row, by their numbers: looked up once for each row and not at each leaf.
-fn row_of_groups(groups: &[u16], row: usize) -> [bool; NUMBERS]
-    ensures { λ r. ⌜ ((g : ℕ) → g ≤ mostGroup → getD r g false ≡ filling (now (groups .entry)) row g) ⌝ }
+// The places of the tree's leaves, entry by entry: looked up once, before the rows. (An operator's entry has one too, which nothing
+// asks for.)
+fn places(list: &[u16], groups: &[u16]) -> [u8; tree::MOST_NODES]
+    requires { ⌜ length (now list) ≤ mostNodes ⌝ }
+    ensures { λ r. ⌜ ArePlaces (now (list .entry)) (now (groups .entry)) r ⌝ }
 {
-    let mut inside = [false; NUMBERS];
+    let mut places = [0u8; tree::MOST_NODES];
     let mut i = 0;
-    while i < groups.len() {
-        let g = groups[i];
-        if g <= tree::MOST_GROUP {
-            let value = in_row(groups, row, g);
-            inside[g as usize] = value;
-            i += 1;
-        } else {
-            i += 1;
-        }
+    while i < list.len() {
+        places[i] = place(groups, list[i]);
+        i += 1;
     }
-    inside
+    places
 }
 
 // What the operator x makes of its operands' values.
@@ -56,32 +53,31 @@ fn combine(x: u16, a: bool, b: bool) -> bool
     a & !b
 }
 
-// The tree's value at a row.
-fn eval(list: &[u16], groups: &[u16], row: usize) -> bool
-    requires { ⌜ Listed (now list) ⌝ }
-    ensures { λ r. ⌜ ((t : Tree) → now (list .entry) ≡ postfix t → r ≡ valueAt (now (groups .entry)) t row) ⌝ }
+// The tree's value at a row, from the row's bits. `value` is the latest operand's; the values of the operands that wait below it
+// stand in `waiting`, from index 1 on.
+fn eval(list: &[u16], places: &[u8; tree::MOST_NODES], row: usize) -> bool
+    requires { ⌜ Listed (now list) × (row < rowCount) × ((groups : List ℕ) × ArePlaces (now list) groups (now places)) ⌝ }
+    ensures { λ r. ⌜ ((t : Tree) (groups : List ℕ) → now (list .entry) ≡ postfix t → ArePlaces (now (list .entry)) groups (now (places .entry))
+        → r ≡ valueAt groups t row) ⌝ }
 {
-    let inside = row_of_groups(groups, row);
-    let mut stack = [false; tree::MOST_NODES];
+    let mut waiting = [false; tree::MOST_NODES];
     let mut top: usize = 0;
+    let mut value = false;
     let mut i = 0;
     while i < list.len() {
         let x = list[i];
         if x < tree::UNION {
-            let value = inside[x as usize];
-            stack[top] = value;
+            waiting[top] = value;
+            value = (row >> places[i]) % 2 == 1;
             top += 1;
             i += 1;
         } else {
-            let b = stack[top - 1];
-            let a = stack[top - 2];
-            let value = combine(x, a, b);
-            stack[top - 2] = value;
             top -= 1;
+            value = combine(x, waiting[top], value);
             i += 1;
         }
     }
-    stack[0]
+    value
 }
 
 // The tree's truth table: "[false; 256] filled by evaluating the tree once for each row".
@@ -89,10 +85,11 @@ pub fn table(list: &[u16], groups: &[u16]) -> [bool; ROWS]
     requires { ⌜ Listed (now list) ⌝ }
     ensures { λ r. ⌜ ((t : Tree) → now (list .entry) ≡ postfix t → r ≡ table (now (groups .entry)) t) ⌝ }
 {
+    let places = places(list, groups);
     let mut rows = [false; ROWS];
     let mut row = 0;
     while row < ROWS {
-        let value = eval(list, groups, row);
+        let value = eval(list, &places, row);
         rows[row] = value;
         row += 1;
     }

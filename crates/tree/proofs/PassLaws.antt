@@ -79,7 +79,7 @@ module _ {A : Type 0} (atLeaf : ℕ → (g : ℕ) → T (isGroup g) → A) (atNo
     stacked-set a i b zero h = refl
     stacked-set a i b (suc k) h = rw (getD-set-other a i k b z (omega arith), stacked-set a i b k (omega arith))
 
-    stacked-push : (a : List A) (k : ℕ) (b : A) → k < length a → stacked z (set a k b) (k + 1) ≡ b ∷ stacked z a k
+    pub stacked-push : (a : List A) (k : ℕ) (b : A) → k < length a → stacked z (set a k b) (k + 1) ≡ b ∷ stacked z a k
     unfolding stacked
     stacked-push a k b h = rw (add-one k) (rw (getD-set-same a k b z h, stacked-set a k b k (omega arith)))
 
