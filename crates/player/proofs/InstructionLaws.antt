@@ -7,7 +7,7 @@ use lib.ListN.{length}
 use Rattle.player.specs.Limits.{registerCount, lastGroup}
 use Rattle.player.specs.Instructions.{Rig, Registers, Instruction, load, add, cut, step, run, numbers, numbersOf, instructions}
 
--- An instruction that names registers 0 to 12 only and, if it is a LOAD, a group from 1 to 9999
+-- An instruction that names registers 0 to 12 only and, if it is a LOAD, a group from 1 to the last one
 abbrev pub WellFormed : Instruction → Type 0
 WellFormed (load target group) = (target < registerCount) × (1 ≤ group) × (group ≤ lastGroup)
 WellFormed (add target s t) = (target < registerCount) × (s < registerCount) × (t < registerCount)

@@ -5,3 +5,4 @@ pub mod FaultLaws
 pub mod ListLaws
 pub mod PackingLaws
 pub mod HoldingLaws
+pub mod PlaceLaws

@@ -1,16 +1,21 @@
 -- Code and patches read four by four and two by two, as the loops do.
-use mathlib.Core.Path.{_≡_, refl, _∙_}
-use mathlib.Core.Bool.{true, false, _||_}
+use mathlib.Core.Path.{_≡_, refl, sym, _∙_, fun-ext}
+use mathlib.Core.Bool.{Bool, true, false, cond, _&&_, _||_}
 use mathlib.Core.List.{List, [], _∷_}
-use Prim.Native.Nat.{ℕ, _+_, _≤_, _<_}
+use Prim.Native.Nat.{ℕ, zero, suc, _+_, _*_, _≤_, _<_}
+use native.Mathlib.Nat.{suc-add}
 use native.Mathlib.Omega.{arith}
+use borrow.Author.Tests.{eq-eqb, ne-eqb, eqb-true, eqb-false}
+use lib.Dec.{eqb}
 use lib.ListN.{length, getD, drop}
 use Rattle.common.proofs.ListLaws.{two-at, four-at}
-use Rattle.player.specs.Instructions.{Rig, Registers, step, run, instruction, instructions}
+use Rattle.player.specs.Instructions.{Rig, Registers, union, put, empty, step, run, instruction, instructions}
+use Rattle.player.specs.Patches.{rig}
 use Rattle.player.specs.Playing.{wrongInstruction, wrongCode, wrongPair, wrongPatch}
+use Rattle.player.proofs.FaultLaws.{or-left, or-right}
 
 module _ (l : List ℕ) (i k : ℕ) (e : i + 4 ≡ k) (h : k ≤ length l) where
-  pub code-more : wrongCode (drop i l) ≡ (wrongInstruction (getD l i 0) (getD l (i + 1) 0) (getD l (i + 2) 0) (getD l (i + 3) 0) || wrongCode (drop k l))
+  code-more : wrongCode (drop i l) ≡ (wrongInstruction (getD l i 0) (getD l (i + 1) 0) (getD l (i + 2) 0) (getD l (i + 3) 0) || wrongCode (drop k l))
   unfolding wrongCode
   code-more = rw (four-at l i k e h)
 
@@ -19,6 +24,13 @@ module _ (l : List ℕ) (i k : ℕ) (e : i + 4 ≡ k) (h : k ≤ length l) where
 
   pub code-miss : wrongInstruction (getD l i 0) (getD l (i + 1) 0) (getD l (i + 2) 0) (getD l (i + 3) 0) ≡ false → wrongCode (drop i l) ≡ wrongCode (drop k l)
   code-miss s = code-more ∙ rw s
+
+  -- code without fault 23: its first instruction, and the rest
+  pub code-right : wrongCode (drop i l) ≡ false
+      → (wrongInstruction (getD l i 0) (getD l (i + 1) 0) (getD l (i + 2) 0) (getD l (i + 3) 0) ≡ false) × (wrongCode (drop k l) ≡ false)
+  code-right right =
+      let both = sym code-more ∙ right in
+      (or-left _ _ both, or-right (wrongInstruction (getD l i 0) (getD l (i + 1) 0) (getD l (i + 2) 0) (getD l (i + 3) 0)) _ both)
 
   pub run-more : (G : Rig) (R : Registers)
       → run G (instructions (drop i l)) R ≡ run G (instructions (drop k l)) (step G (instruction (getD l i 0) (getD l (i + 1) 0) (getD l (i + 2) 0) (getD l (i + 3) 0)) R)
@@ -41,6 +53,14 @@ run-end (a ∷ b ∷ []) G R h = refl
 run-end (a ∷ b ∷ c ∷ []) G R h = refl
 run-end (a ∷ b ∷ c ∷ d ∷ l) G R h = absurd (omega arith)
 
+-- ---- pairs
+pair-put : (S : Rig) (g n group lamp : ℕ) → put S g (union (eqb n) (S g)) group lamp ≡ ((eqb g group && eqb n lamp) || S group lamp)
+pair-put S g n group lamp = go (eqb group g) refl
+  where
+    go : (b : Bool) → eqb group g ≡ b → cond b (union (eqb n) (S g)) (S group) lamp ≡ ((eqb g group && eqb n lamp) || S group lamp)
+    go true q = rw (eqb-true group g q, eq-eqb g g refl)
+    go false q = rw (ne-eqb g group (λ e. eqb-false group g q (sym e)))
+
 module _ (l : List ℕ) (i k : ℕ) (e : i + 2 ≡ k) (h : k ≤ length l) where
   pub patch-hit : wrongPair (getD l i 0) (getD l (i + 1) 0) ≡ true → wrongPatch (drop i l) ≡ true
   unfolding wrongPatch
@@ -50,8 +70,29 @@ module _ (l : List ℕ) (i k : ℕ) (e : i + 2 ≡ k) (h : k ≤ length l) where
   unfolding wrongPatch
   patch-miss s = rw (two-at l i k e h, s)
 
+  -- a pair puts its lamp into its group
+  pub rig-more : put (rig (drop k l)) (getD l i 0) (union (eqb (getD l (i + 1) 0)) (rig (drop k l) (getD l i 0))) ≡ rig (drop i l)
+  unfolding rig
+  rig-more = fun-ext (λ group. fun-ext (λ lamp. rw (two-at l i k e h) (pair-put (rig (drop k l)) (getD l i 0) (getD l (i + 1) 0) group lamp)))
+
 pub patch-end : (l : List ℕ) → length l < 2 → wrongPatch l ≡ false
 unfolding wrongPatch
 patch-end [] h = refl
 patch-end (a ∷ []) h = refl
 patch-end (a ∷ b ∷ l) h = absurd (omega arith)
+
+pub rig-end : (l : List ℕ) → length l < 2 → empty ≡ rig l
+unfolding rig
+rig-end [] h = refl
+rig-end (g ∷ []) h = refl
+rig-end (g ∷ n ∷ l) h = absurd (omega arith)
+
+-- a patch without fault 25: each of its pairs
+pub patch-right : (l : List ℕ) (j : ℕ) → wrongPatch l ≡ false → 2 * j + 2 ≤ length l → wrongPair (getD l (2 * j) 0) (getD l (2 * j + 1) 0) ≡ false
+unfolding wrongPatch
+patch-right [] j right h = absurd (omega arith)
+patch-right (g ∷ []) j right h = absurd (omega arith)
+patch-right (g ∷ n ∷ l) zero right h = or-left (wrongPair g n) (wrongPatch l) right
+patch-right (g ∷ n ∷ l) (suc j) right h =
+    let next : 2 * suc j ≡ suc (suc (2 * j)) = omega arith in
+    rw (next, suc-add, suc-add) (patch-right l j (or-right (wrongPair g n) (wrongPatch l) right) (omega arith))

@@ -88,14 +88,14 @@ pack-one lamp first (suc count) (suc i) e h =
 
 -- ---- the answer's bytes, written from the last to the first
 
-module _ (f : Lamps) (words : List ℕ) (held : HoldsSet 8 words f) where
+module _ (f : Lamps) (words : List ℕ) (held : HoldsSet words f) where
   byte-of-word : (i : ℕ) → i < 64 → getD words (i / 8) 0 / 2 ^ (8 * (i % 8)) % 256 ≡ pack f (8 * i + 1) 8
   byte-of-word i h =
       let m : ℕ = 8 * (i % 8) in
       let first : ℕ = 64 * (i / 8) + 1 in
       let width : 64 ≡ m + (8 + (56 - m)) = omega arith in
       let here : first + m ≡ 8 * i + 1 = omega arith in
-      rw (held (i / 8) (omega arith))
+      rw (held .entry (i / 8) (omega arith))
       (ap (λ (n : ℕ). pack f first n / 2 ^ m % 256) width ∙ pack-part f first m 8 (56 - m) ∙ ap (λ (n : ℕ). pack f n 8) here)
 
   set-last : (l t : List ℕ) (i v : ℕ) → i < length l → set (take (suc i) l ++ t) i v ≡ take i l ++ v ∷ t

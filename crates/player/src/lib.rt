@@ -1,19 +1,19 @@
 // The player: from instructions and a patch to the lamps that are lit.
 //
-// A set of 512 lamps is 8 words of 64 lamps. The instructions are run once for each of the 8, on 13 registers of one word,
-// so that LOAD, ADD and CUT cost one operation each and a table of one word for each group is all that a patch needs.
+// A set of 512 lamps is 8 words of 64 lamps. Each group that the patch names has a place among at most 4,097 sets, and an index says
+// which; so neither clearing nor loading costs by how many group numbers there are, and each instruction is decoded once.
 ghost use mathlib.Core.Path.{_≡_};
 ghost use mathlib.Core.Bool.{false};
-ghost use mathlib.Core.List.{_++_};
+ghost use mathlib.Core.List.{List, _++_};
 ghost use Prim.Native.Nat.{ℕ, _+_, _≤_, _<_};
 ghost use lib.Dec.{eqb};
 ghost use lib.ListN.{length, getD, drop};
-ghost use Rattle.player.specs.Limits.{registerCount, lastGroup, byteCount, outside};
+ghost use Rattle.player.specs.Limits.{registerCount, lastGroup, lastLamp, mostPairs, byteCount, outside};
 ghost use Rattle.player.specs.Instructions.{Lamps, Rig, Registers, union, empty, step, litLamps, instruction, instructions};
 ghost use Rattle.player.specs.Patches.{rig};
 ghost use Rattle.player.specs.Bytes.{bytes};
 ghost use Rattle.player.specs.Playing.{wrongLength, wrongInstruction, wrongCode, wrongPairCount, wrongPair, wrongPatch, playFault, Plays};
-ghost use Rattle.player.specs.InnerWords.{word, wordCount, combined, HoldsSets, HoldsSet, Executable};
+ghost use Rattle.player.specs.InnerWords.{word, combined, HoldsSet, HoldsSets, Indexed, HoldsGroups, Placed, Executable};
 
 // 01's limits: the registers, the last group and the last lamp, the bytes written, the instructions and the pairs.
 const REGISTERS: usize = 13;
@@ -40,6 +40,9 @@ pub const CUT: u16 = 3;
 const WIDTH: usize = 64;
 
 const WORDS: usize = LAMPS / WIDTH;
+
+// The places for sets: place 0, where the set is empty, for the groups that no pair names, and one for each pair.
+const PLACES: usize = PAIRS + 1;
 
 // The answer of `play`: done, or refused with the number of the first fault.
 pub enum Played {
@@ -77,111 +80,121 @@ fn numbers_at(code: &[u16], at: usize) -> Numbers
     }
 }
 
-// The union of two sets for ADD, the first without the second for CUT.
-fn combine(kind: u16, x: u64, y: u64) -> u64
+// Of 64 lamps, the union of two sets for ADD, the first without the second for CUT.
+fn combine_words(kind: u16, x: u64, y: u64) -> u64
     ensures { λ r. ⌜ ((f g : Lamps) (first : ℕ) → x ≡ word f first → y ≡ word g first → r ≡ word (combined kind f g) first) ⌝ }
 {
     if kind == ADD { x | y } else { x & !y }
 }
 
-// The set with `lamp` in it too, if that is one of the 64 lamps from `first` on.
-fn light(set: u64, lamp: usize, first: usize) -> u64
-    ensures { λ r. ⌜ ((f : Lamps) → set ≡ word f first → r ≡ word (union (eqb lamp) f) first) ⌝ }
+// The union of two sets for ADD, the first without the second for CUT.
+fn combine(kind: u16, x: [u64; WORDS], y: [u64; WORDS]) -> [u64; WORDS]
+    ensures { λ r. ⌜ ((f g : Lamps) → HoldsSet x f → HoldsSet y g → HoldsSet r (combined kind f g)) ⌝ }
 {
-    if lamp < first {
-        return set;
+    let mut words = [0u64; WORDS];
+    let mut i = 0;
+    while i < WORDS {
+        words[i] = combine_words(kind, x[i], y[i]);
+        i += 1;
     }
-    if WIDTH <= lamp - first {
-        return set;
-    }
-    (1u64 << (lamp - first)) | set
+    words
 }
 
-// No lamps for any group.
-fn no_lamps() -> [u64; GROUPS + 1]
-    ensures { λ r. ⌜ ((first : ℕ) → HoldsSets (lastGroup + 1) first r empty) ⌝ }
+// The set with `lamp` in it too.
+fn light(set: [u64; WORDS], lamp: usize) -> [u64; WORDS]
+    requires { ⌜ (1 ≤ lamp) × (lamp ≤ lastLamp) ⌝ }
+    ensures { λ r. ⌜ ((f : Lamps) → HoldsSet set f → HoldsSet r (union (eqb lamp) f)) ⌝ }
 {
-    [0u64; GROUPS + 1]
+    let mut lit = set;
+    let i = (lamp - 1) / WIDTH;
+    lit[i] = (1u64 << ((lamp - 1) % WIDTH)) | set[i];
+    lit
 }
 
-// What the patch gives each group, of the 64 lamps from `first` on.
-fn load_groups(patch: &[u16], first: usize) -> [u64; GROUPS + 1]
-    ensures { λ r. ⌜ HoldsSets (lastGroup + 1) first r (rig (now (patch .entry))) ⌝ }
+// Gives a group the next place, if it has none yet; answers how many places are given then.
+fn give_place(index: &mut [u16; GROUPS + 1], given: usize, group: usize) -> usize
+    requires { ⌜ (length (now index) ≡ lastGroup + 1) × (group ≤ lastGroup) × (given < mostPairs) ⌝ }
+    ensures { λ r. ⌜ (length (now (index .exit)) ≡ lastGroup + 1) × (getD (now (index .exit)) group 0 ≡ 0 → ⊥) × (r ≤ given + 1)
+        × ((G : Rig) (sets : List (List ℕ)) → Placed G (now (index .entry)) sets given → Placed G (now (index .exit)) sets r) ⌝ }
 {
-    let mut groups = no_lamps();
+    if index[group] == 0 {
+        index[group] = (given + 1) as u16;
+        return given + 1;
+    }
+    given
+}
+
+// What the patch gives each group: the places of the groups that it names, and the sets at these places.
+fn load_groups(patch: &[u16], index: &mut [u16; GROUPS + 1], sets: &mut [[u64; WORDS]; PLACES])
+    requires { ⌜ (wrongPairCount (length (now patch)) ≡ false) × (wrongPatch (now patch) ≡ false) × Placed empty (now index) (now sets) 0 ⌝ }
+    ensures { λ _. ⌜ Indexed (now (index .exit)) (now (sets .exit)) × HoldsGroups (now (index .exit)) (now (sets .exit)) (rig (now (patch .entry))) ⌝ }
+{
+    let mut given = 0;
     let mut j = patch.len() / 2;
     while 0 < j {
         j -= 1;
         let group = number_at(patch, 2 * j);
         let lamp = number_at(patch, 2 * j + 1);
-        if group <= GROUPS {
-            groups[group] = light(groups[group], lamp, first);
-        }
+        given = give_place(index, given, group);
+        let place = index[group] as usize;
+        sets[place] = light(sets[place], lamp);
     }
-    groups
 }
 
 // Carries out one instruction.
-fn step(registers: &mut [u64; REGISTERS], i: Numbers, groups: &[u64])
-    requires { ⌜ Executable (i .kind) (i .target) (i .s) (i .t) (now registers) (now groups) ⌝ }
+fn step(
+    registers: &mut [[u64; WORDS]; REGISTERS],
+    i: Numbers,
+    index: &[u16; GROUPS + 1],
+    sets: &[[u64; WORDS]; PLACES],
+)
+    requires { ⌜ Executable (i .kind) (i .target) (i .s) (i .t) (now registers) × Indexed (now index) (now sets) ⌝ }
     ensures { λ _. ⌜ (length (now (registers .exit)) ≡ registerCount)
-        × ((first : ℕ) (G : Rig) (R : Registers)
-        → HoldsSets (lastGroup + 1) first (now (groups .entry)) G → HoldsSets registerCount first (now (registers .entry)) R
-        → HoldsSets registerCount first (now (registers .exit)) (step G (instruction (i .kind) (i .target) (i .s) (i .t)) R)) ⌝ }
+        × ((G : Rig) (R : Registers) → HoldsGroups (now (index .entry)) (now (sets .entry)) G → HoldsSets (now (registers .entry)) R
+        → HoldsSets (now (registers .exit)) (step G (instruction (i .kind) (i .target) (i .s) (i .t)) R)) ⌝ }
 {
     let target = i.target;
     let s = i.s;
     let t = i.t;
     if i.kind == LOAD {
-        registers[target] = groups[s];
+        let place = index[s] as usize;
+        registers[target] = sets[place];
     } else {
         registers[target] = combine(i.kind, registers[s], registers[t]);
     }
 }
 
 // Register 0 after all the instructions.
-fn execute(code: &[u16], groups: &[u64]) -> u64
-    requires { ⌜ (wrongCode (now code) ≡ false) × (length (now groups) ≡ lastGroup + 1) ⌝ }
-    ensures { λ r. ⌜ ((first : ℕ) (G : Rig) → HoldsSets (lastGroup + 1) first (now (groups .entry)) G
-        → r ≡ word (litLamps G (instructions (now (code .entry)))) first) ⌝ }
+fn execute(code: &[u16], index: &[u16; GROUPS + 1], sets: &[[u64; WORDS]; PLACES]) -> [u64; WORDS]
+    requires { ⌜ (wrongCode (now code) ≡ false) × Indexed (now index) (now sets) ⌝ }
+    ensures { λ r. ⌜ ((G : Rig) → HoldsGroups (now (index .entry)) (now (sets .entry)) G
+        → HoldsSet r (litLamps G (instructions (now (code .entry))))) ⌝ }
 {
-    let mut registers = [0u64; REGISTERS];
+    let mut registers = [[0u64; WORDS]; REGISTERS];
     let mut at = 0;
     while 4 <= code.len() - at {
         let i = numbers_at(code, at);
-        step(&mut registers, i, groups);
+        step(&mut registers, i, index, sets);
         at += 4;
     }
     registers[0]
 }
 
-// The 64 lamps of the answer from `first` on.
-fn answer_word(code: &[u16], patch: &[u16], first: usize) -> u64
-    requires { ⌜ wrongCode (now code) ≡ false ⌝ }
-    ensures { λ r. ⌜ r ≡ word (litLamps (rig (now (patch .entry))) (instructions (now (code .entry)))) first ⌝ }
-{
-    let groups = load_groups(patch, first);
-    execute(code, &groups)
-}
-
-// The answer, 64 lamps after 64 lamps.
+// The answer.
 fn answer(code: &[u16], patch: &[u16]) -> [u64; WORDS]
-    requires { ⌜ wrongCode (now code) ≡ false ⌝ }
-    ensures { λ r. ⌜ HoldsSet wordCount r (litLamps (rig (now (patch .entry))) (instructions (now (code .entry)))) ⌝ }
+    requires { ⌜ (wrongCode (now code) ≡ false) × (wrongPairCount (length (now patch)) ≡ false) × (wrongPatch (now patch) ≡ false) ⌝ }
+    ensures { λ r. ⌜ HoldsSet r (litLamps (rig (now (patch .entry))) (instructions (now (code .entry)))) ⌝ }
 {
-    let mut words = [0u64; WORDS];
-    let mut i = 0;
-    while i < WORDS {
-        words[i] = answer_word(code, patch, WIDTH * i + 1);
-        i += 1;
-    }
-    words
+    let mut index = [0u16; GROUPS + 1];
+    let mut sets = [[0u64; WORDS]; PLACES];
+    load_groups(patch, &mut index, &mut sets);
+    execute(code, &index, &sets)
 }
 
 // Writes a set into the first 64 bytes, the last byte first.
 fn write_bytes(words: [u64; WORDS], lamps: &mut [u8])
     requires { ⌜ byteCount ≤ length (now lamps) ⌝ }
-    ensures { λ _. ⌜ ((f : Lamps) → HoldsSet wordCount words f → now (lamps .exit) ≡ bytes f ++ drop byteCount (now (lamps .entry))) ⌝ }
+    ensures { λ _. ⌜ ((f : Lamps) → HoldsSet words f → now (lamps .exit) ≡ bytes f ++ drop byteCount (now (lamps .entry))) ⌝ }
 {
     let mut i = BYTES;
     while 0 < i {

@@ -1,32 +1,31 @@
 -- The loop's invariant: the registers hold sets from which the rest of the code comes to the answer of the whole.
 use borrow.Author.Needs.{needs}
-use mathlib.Core.Path.{_≡_, refl, sym, ap, _∙_}
+use mathlib.Core.Path.{_≡_, refl, sym, _∙_}
 use mathlib.Core.Bool.{false}
 use mathlib.Core.List.{List}
 use Prim.Native.Nat.{ℕ, _+_, _-_, _≤_}
 use native.Mathlib.Omega.{arith}
 use lib.ListN.{length, getD, drop, length-drop}
-use Rattle.player.specs.Limits.{registerCount, lastGroup}
+use Rattle.player.specs.Limits.{registerCount}
 use Rattle.player.specs.Instructions.{Rig, Registers, empty, step, run, instruction, instructions}
-use Rattle.player.specs.Playing.{wrongInstruction, wrongCode}
-use Rattle.player.specs.InnerWords.{word, HoldsSets}
-use Rattle.player.proofs.FaultLaws.{or-left, or-right}
-use Rattle.player.proofs.ListLaws.{code-more, run-more, run-end}
+use Rattle.player.specs.Playing.{wrongCode}
+use Rattle.player.specs.InnerWords.{HoldsSets, HoldsGroups}
+use Rattle.player.proofs.ListLaws.{code-right, run-more, run-end}
 use Rattle.player.proofs.HoldingLaws.{holds-none}
 use Rattle.player.proofs.execute.Statement.{statement}
 use Rattle.player.proofs.execute.Tie as tie
 
 abbrev Inv-loop : tie.InvT-loop
-Inv-loop code groups registers₀ at₀ registers at =
+Inv-loop code index sets registers₀ at₀ registers at =
     (at ≤ length code) × (wrongCode (drop at code) ≡ false) × (length registers ≡ registerCount)
-    × ((first : ℕ) (G : Rig) → HoldsSets (lastGroup + 1) first groups G
-    → (R : Registers) × HoldsSets registerCount first registers R × (run G (instructions (drop at code)) R ≡ run G (instructions code) empty))
+    × ((G : Rig) → HoldsGroups index sets G
+    → (R : Registers) × HoldsSets registers R × (run G (instructions (drop at code)) R ≡ run G (instructions code) empty))
 
 abbrev μ-loop : tie.MeasureT-loop
-μ-loop code groups registers₀ at₀ registers at = length code - at
+μ-loop code index sets registers₀ at₀ registers at = length code - at
 
 loop-holds : tie.Need-loop-holds Inv-loop μ-loop
-loop-holds c = (omega arith, c .before .before .pre .0, refl, λ first G h. (empty, holds-none registerCount first empty (λ i lamp. refl), refl))
+loop-holds c = (omega arith, c .before .pre .0, refl, λ G h. (empty, holds-none, refl))
 
 sub-loop : tie.Need-sub-loop Inv-loop μ-loop
 sub-loop c = search needs
@@ -36,14 +35,11 @@ numbers-at-requires c κs = search needs
 
 step-requires : tie.Need-step-requires Inv-loop μ-loop
 step-requires c κs =
-    let args = c .before .before .before .before .before .before .args in
-    let pre = c .before .before .before .before .before .before .pre in
-    let l : List ℕ = args .code .now in
+    let start = c .before .before .before .before .before in
     let v = c .before .before .before .loop in
     let q = c .before .numbers-at .ensures in
-    let right = or-left (wrongInstruction (getD l (v .at) 0) (getD l (v .at + 1) 0) (getD l (v .at + 2) 0) (getD l (v .at + 3) 0)) (wrongCode (drop (v .at + 4) l))
-    (sym (code-more l (v .at) (v .at + 4) refl (omega arith)) ∙ v .inv .1) in
-    record { right = rw (q .0, q .1, q .2, q .3) right; all-registers = v .inv .2; all-groups = pre .1 }
+    let right = code-right (start .args .code .now) (v .at) (v .at + 4) refl (omega arith) (v .inv .1) .0 in
+    (record { right = rw (q .0, q .1, q .2, q .3) right; all-registers = v .inv .2 }, start .pre .1)
 
 add-at : tie.Need-add-at Inv-loop μ-loop
 add-at c = search needs
@@ -53,34 +49,31 @@ loop-less c = search needs
 
 loop-again : tie.Need-loop-again Inv-loop μ-loop
 loop-again c =
-    let args = c .before .before .before .before .before .before .before .args in
-    let l : List ℕ = args .code .now in
+    let l : List ℕ = c .before .before .before .before .before .before .args .code .now in
     let v = c .before .before .before .before .loop in
     let q = c .before .before .numbers-at .ensures in
     let fit : v .at + 4 ≤ length l = omega arith in (
-      omega arith,
-      or-right (wrongInstruction (getD l (v .at) 0) (getD l (v .at + 1) 0) (getD l (v .at + 2) 0) (getD l (v .at + 3) 0)) (wrongCode (drop (v .at + 4) l))
-          (sym (code-more l (v .at) (v .at + 4) refl fit) ∙ v .inv .1),
+      fit,
+      code-right l (v .at) (v .at + 4) refl fit (v .inv .1) .1,
       c .step .ensures .0,
-      λ first G h.
-          let w = v .inv .3 first G h in (
+      λ G h.
+          let w = v .inv .3 G h in (
             step G (instruction (getD l (v .at) 0) (getD l (v .at + 1) 0) (getD l (v .at + 2) 0) (getD l (v .at + 3) 0)) (w .0),
-            rw (q .0, q .1, q .2, q .3) at (c .step .ensures .1 first G (w .0) h (w .1)),
+            rw (q .0, q .1, q .2, q .3) at (c .step .ensures .1 G (w .0) h (w .1)),
             sym (run-more l (v .at) (v .at + 4) refl fit G (w .0)) ∙ w .2,
           ),
     )
 
-array-read-result : tie.Need-array-read-result Inv-loop μ-loop
-array-read-result c = search needs
+array-copy-out-result : tie.Need-array-copy-out-result Inv-loop μ-loop
+array-copy-out-result c = search needs
 
 returns : tie.Need-returns Inv-loop μ-loop
-returns c first G h =
-    let args = c .before .before .before .before .args in
-    let l : List ℕ = args .code .now in
-    let v = c .before .loop in
-    let w = v .inv .3 first G h in
-    w .1 .entry 0 (omega arith)
-    ∙ ap (λ (R : Registers). word (R 0) first) (sym (run-end (drop (v .at) l) G (w .0) (simp length-drop (omega arith))) ∙ w .2)
+returns c G h =
+    let l : List ℕ = c .before .before .before .before .args .code .now in
+    let v = c .before .before .loop in
+    let w = v .inv .3 G h in
+    let same = sym (run-end (drop (v .at) l) G (w .0) (simp length-drop (omega arith))) ∙ w .2 in
+    rw (← same) (w .1 .entry 0 (omega arith))
 
 pub execute-spec : {M : Type 1} → statement M
 execute-spec =
@@ -95,5 +88,5 @@ execute-spec =
     add-at
     loop-less
     loop-again
-    array-read-result
+    array-copy-out-result
     returns)

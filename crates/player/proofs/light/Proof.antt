@@ -1,40 +1,59 @@
--- A lamp alone is a power of two, joined by the union of bits; a lamp outside the 64 changes none of them.
-use mathlib.Core.Path.{_≡_, sym, ap₂, _∙_}
-use Prim.Native.Nat.{ℕ, _<_, _-_, _*_, _%_, _^_}
-use native.Mathlib.Nat.{mod-eq-of-lt, one-mul}
-use native.Mathlib.Omega.{arith}
+-- In the lamp's word the lamp alone is a power of two, joined by the union of bits; the other words stay as they are.
 use borrow.Author.Needs.{needs}
 use borrow.Author.Tests.{ne-eqb}
+use mathlib.Core.Path.{_≡_, sym, ap₂, _∙_}
+use Prim.Native.Nat.{ℕ, _<_, _+_, _-_, _*_, _/_, _%_, _^_}
+use native.Mathlib.Nat.{mod-eq-of-lt, one-mul}
+use native.Mathlib.Omega.{arith}
 use lib.Bits.{bitOr}
 use lib.Dec.{eqb}
+use lib.ListN.{length-set}
 use lib.Pow.{pow-lt}
-use Rattle.player.specs.Bytes.{pack}
+use Rattle.player.specs.Instructions.{union}
+use Rattle.player.specs.InnerWords.{wordWidth, wordCount, word}
 use Rattle.player.proofs.PackingLaws.{pack-union, union-off, pack-one}
+use Rattle.player.proofs.HoldingLaws.{written}
 use Rattle.player.proofs.light.Statement.{statement}
 use Rattle.player.proofs.light.Tie as tie
 
+sub-i : tie.Need-sub-i
+sub-i c = search needs
+
+sub-lit : tie.Need-sub-lit
+sub-lit c = search needs
+
+shl-lit : tie.Need-shl-lit
+shl-lit c = search needs
+
+mul-lit : tie.Need-mul-lit
+mul-lit c = search needs
+
+array-read-lit : tie.Need-array-read-lit
+array-read-lit c = search needs
+
+mul-lit-2 : tie.Need-mul-lit-2
+mul-lit-2 c = search needs
+
+array-write-lit : tie.Need-array-write-lit
+array-write-lit c = search needs
+
 returns : tie.Need-returns
-returns c f e =
-    let a = c .before .args in
-    e ∙ union-off (eqb (a .lamp)) f (a .first) 64 (λ n low high. ne-eqb (a .lamp) n (λ x. omega arith))
-
-returns-2 : tie.Need-returns-2
-returns-2 c f e =
-    let a = c .before .before .args in
-    e ∙ union-off (eqb (a .lamp)) f (a .first) 64 (λ n low high. ne-eqb (a .lamp) n (λ x. omega arith))
-
-shl-result : tie.Need-shl-result
-shl-result c = search needs
-
-returns-3 : tie.Need-returns-3
-returns-3 c f e =
-    let a = c .before .before .args in
-    let i : ℕ = a .lamp - a .first in
-    let within : i < 64 = omega arith in
-    let small : 2 ^ i < 2 ^ 64 = pow-lt within in
-    let power : (1 * 2 ^ i) % 2 ^ 64 ≡ 2 ^ i = simp one-mul (mod-eq-of-lt small) in
-    let one : 2 ^ i ≡ pack (eqb (a .lamp)) (a .first) 64 = sym (pack-one (a .lamp) (a .first) 64 i (omega arith) within) in
-    ap₂ bitOr (power ∙ one) e ∙ pack-union (eqb (a .lamp)) f (a .first) 64
+returns c f held =
+    let lamp : ℕ = c .args .lamp in
+    let i : ℕ = (lamp - 1) / wordWidth in
+    let first : ℕ = wordWidth * i + 1 in
+    let bit : ℕ = (lamp - 1) % wordWidth in
+    let within : bit < 64 = omega arith in
+    let power : (1 * 2 ^ bit) % 2 ^ 64 ≡ 2 ^ bit = simp one-mul (mod-eq-of-lt (pow-lt within)) in
+    let one : 2 ^ bit ≡ word (eqb lamp) first = sym (pack-one lamp first wordWidth bit (omega arith) within) in
+    record {
+      size = simp length-set (held .size);
+      entry = written (λ k word-k. k < wordCount → word-k ≡ word (union (eqb lamp) f) (wordWidth * k + 1)) (c .args .t1) i _ 0 (omega (arith, held .size))
+          (λ lt. ap₂ bitOr (power ∙ one) (held .entry i lt) ∙ pack-union (eqb lamp) f first wordWidth)
+          (λ k n lt. held .entry k lt ∙ union-off (eqb lamp) f (wordWidth * k + 1) wordWidth (λ other low high. ne-eqb lamp other (λ x. n (omega arith))));
+    }
 
 pub light-spec : {M : Type 1} → statement M
-light-spec = tie.close (tie.spec returns returns-2 shl-result returns-3)
+light-spec =
+    tie.close
+    (tie.spec sub-i sub-lit shl-lit mul-lit array-read-lit mul-lit-2 array-write-lit returns)

@@ -6,7 +6,7 @@ use denote.Ref.{now}
 use mathlib.Core.Path.{_≡_, refl, sym, _∙_}
 use mathlib.Core.Bool.{Bool, true, false, cond}
 use mathlib.Core.List.{List, _++_}
-use Prim.Native.Nat.{ℕ, _≤_}
+use Prim.Native.Nat.{ℕ}
 use native.Mathlib.Omega.{arith}
 use lib.Dec.{eqb, ltb}
 use lib.ListN.{length, drop}
@@ -19,17 +19,20 @@ use Rattle.player.specs.Playing.{wrongLength, wrongCode, wrongPairCount,
 use Rattle.player.proofs.play.Statement.{statement}
 use Rattle.player.proofs.play.Tie as tie
 
-no-fault : (a b c d e : Bool) → cond {A = ℕ} a 21 (cond b 22 (cond c 23 (cond d 24 (cond e 25 0)))) ≡ 0 → (a ≡ false) × (c ≡ false)
+no-fault : (a b c d e : Bool) → cond {A = ℕ} a 21 (cond b 22 (cond c 23 (cond d 24 (cond e 25 0)))) ≡ 0
+    → (a ≡ false) × (c ≡ false) × (d ≡ false) × (e ≡ false)
 no-fault true b c d e h = absurd (omega arith)
 no-fault false true c d e h = absurd (omega arith)
 no-fault false false true d e h = absurd (omega arith)
-no-fault false false false d e h = (refl, refl)
+no-fault false false false true e h = absurd (omega arith)
+no-fault false false false false true h = absurd (omega arith)
+no-fault false false false false false h = (refl, refl, refl, refl)
 
 module _ (code patch lamps : List ℕ) where
-  faultless : playFault code patch lamps ≡ 0 → (byteCount ≤ length lamps) × (wrongCode code ≡ false)
-  faultless h =
-      let z = no-fault (ltb (length lamps) byteCount) (wrongLength (length code)) (wrongCode code) (wrongPairCount (length patch)) (wrongPatch patch) h in
-      (ltb-false (length lamps) byteCount (z .0), z .1)
+  faultless : playFault code patch lamps ≡ 0
+      → (ltb (length lamps) byteCount ≡ false) × (wrongCode code ≡ false) × (wrongPairCount (length patch) ≡ false) × (wrongPatch patch ≡ false)
+  faultless =
+      no-fault (ltb (length lamps) byteCount) (wrongLength (length code)) (wrongCode code) (wrongPairCount (length patch)) (wrongPatch patch)
 
   refused : (number : ℕ) → number ≡ playFault code patch lamps → (number ≡ 0 → ⊥) → Plays code patch lamps (Refused number) lamps
   refused number e n =
@@ -56,13 +59,14 @@ returns c =
 answer-requires : tie.Need-answer-requires
 answer-requires c κs =
     let a = c .before .before .before .before .before .before .args in
-    faultless (now (a .code)) (now (a .patch)) (now (a .lamps)) (sym (c .before .fault .ensures) ∙ c .if1 .left) .1
+    let right = faultless (now (a .code)) (now (a .patch)) (now (a .lamps)) (sym (c .before .fault .ensures) ∙ c .if1 .left) in
+    (right .1, right .2, right .3)
 
 write-bytes-requires : tie.Need-write-bytes-requires
 write-bytes-requires c κs =
     let fault = c .before .before .before .fault in
     let a = c .before .before .before .before .before .before .before .before .args in
-    faultless (now (a .code)) (now (a .patch)) (now (a .lamps)) (sym (fault .ensures) ∙ c .before .before .if1 .left) .0
+    ltb-false _ _ (faultless (now (a .code)) (now (a .patch)) (now (a .lamps)) (sym (fault .ensures) ∙ c .before .before .if1 .left) .0)
 
 same-length-2 : tie.Need-same-length-2
 same-length-2 c = search needs

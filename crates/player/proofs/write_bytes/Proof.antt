@@ -14,7 +14,7 @@ use Rattle.player.proofs.write_bytes.Tie as tie
 
 abbrev Inv-loop : tie.InvT-loop
 Inv-loop lamps₀ words i₀ lamps i =
-    ((f : Lamps) → HoldsSet 8 words f → lamps ≡ take i lamps₀ ++ (bytesFrom f (8 * i + 1) (64 - i) ++ drop 64 lamps₀))
+    ((f : Lamps) → HoldsSet words f → lamps ≡ take i lamps₀ ++ (bytesFrom f (8 * i + 1) (64 - i) ++ drop 64 lamps₀))
     × (i ≤ 64) × (length lamps ≡ length lamps₀)
 
 abbrev μ-loop : tie.MeasureT-loop
