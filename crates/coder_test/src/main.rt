@@ -1,10 +1,10 @@
 // Codes 01's example, trees that need 1 and 13 registers, chains of 8,191 nodes to both sides, and lists that are refused.
-// Before each case every number of the buffer is 60000. A line has the case, the number answered, how many instructions, the
-// highest register named, a checksum of the whole buffer, and how many of its numbers still are 60000.
+// Before each case every number of the buffer is 61000, no group's and no operator's. A line has the case, the number answered, how many instructions, the
+// highest register named, a checksum of the whole buffer, and how many of its numbers still are 61000.
 ghost use Prim.Native.Nat.{_<_};
 use coder::Coded;
 
-const BEFORE: u16 = 60000;
+const BEFORE: u16 = 61000;
 
 // 01's number of an answer, 0 if done.
 fn number(answer: Coded) -> u64 {
@@ -224,7 +224,7 @@ fn no_trees() {
     case(b"an operand missing", &[7, tree::UNION]);
     case(b"two trees", &[7, 8]);
     case(b"group 0", &[0]);
-    case(b"group 10000", &[10000]);
+    case(b"group 60001", &[60001]);
 }
 
 fn too_long() {
@@ -235,7 +235,7 @@ fn too_long() {
 
 fn main() {
     example();
-    case(b"a leaf", &[9999]);
+    case(b"a leaf", &[60000]);
     large(b"complete", 0);
     large(b"chain to the left", 1);
     large(b"chain to the right", 2);

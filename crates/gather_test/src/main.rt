@@ -1,12 +1,12 @@
 // Gathers 01's samples (vii) to (x), trees for other ways of building one, trees that are gathered already, trees at the limits,
-// and what is refused with each number, the first fault first. Before each case every number of the buffer is 60000. A line has the
+// and what is refused with each number, the first fault first. Before each case every number of the buffer is 61000, no group's and no operator's. A line has the
 // case; the number answered, the new tree's length and its holder's position; whether the buffer behind the tree is as before; and the
 // tree's first entries.
 use gather::Gathering;
 use tree::DIFFERENCE;
 use tree::UNION;
 
-const BEFORE: u16 = 60000;
+const BEFORE: u16 = 61000;
 
 // Whether the numbers from index `from` on are as before.
 fn unchanged(out: &[u16], from: usize) -> bool {

@@ -15,9 +15,9 @@ use Rattle.key.specs.declared.KeyAnswer.{KeyAnswer}
 use Rattle.key.specs.declared.KeyAnswer.the-variants.{Written, Short}
 
 -- As many bytes as every key fits in: 10,000 LIFT lines of at most 16 bytes (a lift line of a sheet has at least 6 of its
--- 60,000 bytes), a HELD line of at most 17, and 8,191 code lines of at most 13.
+-- 60,000 bytes), a HELD line of at most 17, and 8,191 code lines of at most 14.
 abbrev pub keyBytes : ℕ
-keyBytes = 266500
+keyBytes = 274691
 
 -- "It reads a sheet .. and prints `NO` number line, or: ..": a refusal for a sheet that reading refuses, and for one that it accepts
 -- a key that meets the third demand

@@ -24,7 +24,7 @@ abbrev pub heldBytes : ℕ
 heldBytes = 17
 
 abbrev pub instructionBytes : ℕ
-instructionBytes = 13
+instructionBytes = 14
 
 -- what a sheet's marks are in a tree that its lifts leave
 pub record Markable (u : Tree) (marks : List ℕ) : Type 0 where

@@ -1,7 +1,7 @@
 -- What a call of `lift` says, for a tree that the caller has: the definition's result, and what its line needs.
 use mathlib.Core.Path.{_≡_, refl, sym, ap, subst, _∙_}
 use mathlib.Core.List.{List, [], _∷_}
-use Prim.Native.Nat.{ℕ, _+_, _≤_, _<_}
+use Prim.Native.Nat.{ℕ, _+_, _^_, _≤_, _<_}
 use native.Mathlib.Omega.{arith}
 use lib.ListN.{length, take, drop, length-append}
 use lib.Seq.{length-take-le}
@@ -31,7 +31,7 @@ pub record DoneLift (t : Tree) (l : LiftLine) (count place looks : ℕ) (new : L
   pub most : size tree ≤ mostNodes
   pub front : take count new ≡ postfix tree
   pub long : count ≤ length new
-  pub place-small : place < 10000
+  pub place-small : place < 10 ^ 4
   pub looks-small : looks < 100
 
 -- it was refused
@@ -85,7 +85,7 @@ module _ (entries new : List ℕ) (r : Lifted) (new′ : List ℕ) (t : Tree) (l
           record { is = h; small = subst (Kept t (l .levels)) h kept }
 
 -- ---- the two answers of `lift_one`
-pub lift-line-room : (number position looks at room : ℕ) → number < 100 → position < 10000 → looks < 100 → at + liftBytes ≤ room → at + length (line LIFT (number ∷ position ∷ looks ∷ [])) ≤ room
+pub lift-line-room : (number position looks at room : ℕ) → number < 100 → position < 10 ^ 4 → looks < 100 → at + liftBytes ≤ room → at + length (line LIFT (number ∷ position ∷ looks ∷ [])) ≤ room
 lift-line-room number position looks at room n p k h = omega (arith, lift-most number position looks n p k)
 
 pub lifted-one-done : {t : Tree} {l : LiftLine} {count place looks next after : ℕ} {tree tree′ new out out′ : List ℕ} {at : ℕ} → DoneLift t l count place looks new → mostNodes ≤ length tree

@@ -1,6 +1,6 @@
 // Lifts 01's samples (i) to (vi), (iv) and (vi) as request 2 changes them, lifts at every limit, and lifts that are refused with each number.
-// Before each case every number of the buffer is 60000. A line has the case; the number, the position and the looks that the key would
-// print; the new tree's length; how many numbers of the buffer still are 60000; a checksum of the whole buffer; and the new tree's first
+// Before each case every number of the buffer is 61000, no group's and no operator's. A line has the case; the number, the position and the looks that the key would
+// print; the new tree's length; how many numbers of the buffer still are 61000; a checksum of the whole buffer; and the new tree's first
 // entries.
 ghost use Prim.Native.Nat.{_≤_};
 ghost use lib.ListN.{length};
@@ -8,7 +8,7 @@ use lift::Lifted;
 use tree::DIFFERENCE;
 use tree::UNION;
 
-const BEFORE: u16 = 60000;
+const BEFORE: u16 = 61000;
 
 // Sets the list's numbers from index `from` up to, not including, `to`.
 fn set_all(list: &mut [u16], from: usize, to: usize, x: u16)
@@ -160,7 +160,7 @@ fn refusals() {
     show_in(b"11 a buffer of 8190", &[1, 2, 65002], 0, 1, &mut short);
     show(b"12 two trees", &[1, 2], 0, 1);
     show(b"12 no operand", &[65001], 0, 1);
-    show(b"12 no group", &[10000, 2, 65001], 0, 1);
+    show(b"12 no group", &[60001, 2, 65001], 0, 1);
     show(b"13", &[1, 2, 65002], 3, 1);
     show(b"14 no levels", &[1, 2, 65002, 3, 65002], 0, 0);
     show(b"14 as many as the level", &[1, 2, 65002, 3, 65002], 0, 2);

@@ -7,9 +7,9 @@ use lib.Dec.{ltb}
 abbrev pub registerCount : ℕ
 registerCount = 13
 
--- "A number from 1 to 9999 is .. that group of lamps"
+-- "A number from 1 to .. is .. that group of lamps"; request 4: "Reading, tree, code, patch and marks all accept 1 to 60,000."
 abbrev pub lastGroup : ℕ
-lastGroup = 9999
+lastGroup = 60000
 
 -- "pairs of group and lamp (1 to 512)"
 abbrev pub lastLamp : ℕ

@@ -18,7 +18,7 @@ ghost use Rattle.player.specs.InnerWords.{word, combined, HoldsSet, Hold
 // 01's limits: the registers, the last group and the last lamp, the bytes written, the instructions and the pairs.
 const REGISTERS: usize = 13;
 
-const GROUPS: usize = 9999;
+const GROUPS: usize = 60000;
 
 const LAMPS: usize = 512;
 

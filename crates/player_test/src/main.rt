@@ -105,6 +105,8 @@ fn loads() {
     instruction(b"group 0", LOAD, 0, 0, 0);
     instruction(b"group 9999", LOAD, 0, 9999, 0);
     instruction(b"group 10000", LOAD, 0, 10000, 0);
+    instruction(b"group 60000", LOAD, 0, 60000, 0);
+    instruction(b"group 60001", LOAD, 0, 60001, 0);
     instruction(b"LOAD with a last number not 0", LOAD, 0, 7, 1);
     case(
         b"a fault in the second instruction",
@@ -125,6 +127,8 @@ fn pairs() {
     pair(b"a pair of group 0", 0, 1);
     pair(b"a pair of group 9999", 9999, 1);
     pair(b"a pair of group 10000", 10000, 1);
+    pair(b"a pair of group 60000", 60000, 1);
+    pair(b"a pair of group 60001", 60001, 1);
     pair(b"a pair of lamp 0", 7, 0);
     pair(b"a pair of lamp 512", 7, 512);
     pair(b"a pair of lamp 513", 7, 513);

@@ -92,27 +92,27 @@ unfolding fieldsAfter
 line-three word a b c =
     omega (arith, line-length word (a ∷ b ∷ c ∷ []), length-append (field a) (field b ++ (field c ++ [])), length-append (field b) (field c ++ []), length-append (field c) [])
 
--- an instruction that the player takes: at most 13 bytes
-pub instruction-most : (i : Instruction) → WellFormed i → length (rowText (instructionRow i)) ≤ 13
+-- an instruction that the player takes: at most 14 bytes
+pub instruction-most : (i : Instruction) → WellFormed i → length (rowText (instructionRow i)) ≤ 14
 instruction-most (load target group) w =
-    omega (arith, line-two LOAD target group, digits-length 1 target (omega (arith, w .0)), digits-length 3 group (omega (arith, w .2)))
+    omega (arith, line-two LOAD target group, digits-length 1 target (omega (arith, w .0)), digits-length 4 group (omega (arith, w .2)))
 instruction-most (add target s t) w =
     omega (arith, line-three ADD target s t, digits-length 1 target (omega (arith, w .0)), digits-length 1 s (omega (arith, w .1)), digits-length 1 t (omega (arith, w .2)))
 instruction-most (cut target s t) w =
     omega (arith, line-three CUT target s t, digits-length 1 target (omega (arith, w .0)), digits-length 1 s (omega (arith, w .1)), digits-length 1 t (omega (arith, w .2)))
 
-pub code-most : (is : List Instruction) → AllWellFormed is → length (lines (instructionRows is)) ≤ 13 * length is
+pub code-most : (is : List Instruction) → AllWellFormed is → length (lines (instructionRows is)) ≤ 14 * length is
 unfolding lines instructionRows AllWellFormed
 code-most [] w = omega arith
 code-most (i ∷ is) w = omega (arith, instruction-most i (w .0), code-most is (w .1), length-append (rowText (instructionRow i)) (lines (instructionRows is)))
 
 -- a LIFT line: at most 16
-pub lift-most : (number position looks : ℕ) → number < 100 → position < 10000 → looks < 100 → length (line LIFT (number ∷ position ∷ looks ∷ [])) ≤ 16
+pub lift-most : (number position looks : ℕ) → number < 100 → position < 10 ^ 4 → looks < 100 → length (line LIFT (number ∷ position ∷ looks ∷ [])) ≤ 16
 lift-most number position looks n p k =
     omega (arith, line-three LIFT number position looks, digits-length 1 number (omega arith), digits-length 3 position (omega arith), digits-length 1 looks (omega arith))
 
 -- a HELD line: at most 17
-pub held-most : (first count : ℕ) → first < 10000 → count < 10000 → length (line HELD (0 ∷ first ∷ count ∷ [])) ≤ 17
+pub held-most : (first count : ℕ) → first < 10 ^ 4 → count < 10 ^ 4 → length (line HELD (0 ∷ first ∷ count ∷ [])) ≤ 17
 held-most first count f c =
     omega (arith, line-three HELD 0 first count, digits-length 0 0 (omega arith), digits-length 3 first (omega arith), digits-length 3 count (omega arith))
 

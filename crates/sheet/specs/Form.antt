@@ -63,7 +63,7 @@ abbrev pub bare : ℕ → Line
 bare kind =
     cond (eqb kind letterU) (Operator (sign union)) (cond (eqb kind letterD) (Operator (sign difference)) (cond (eqb kind letterE) End Bad))
 
--- "`G` group (1 to 9999)"; "`K` group (1 to 9999): a mark." The last group is the rules'.
+-- "`G` group"; "`K` group ..: a mark.": from 1 to the rules' last one
 abbrev pub oneNumber : Rules → ℕ → Option ℕ → Line
 oneNumber rules kind n =
     cond (eqb kind letterG) (ranged (isUpTo (rules .lastGroup)) Group n) (cond (eqb kind letterK) (ranged (isUpTo (rules .lastGroup)) Mark n) Bad)
@@ -72,8 +72,8 @@ oneNumber rules kind n =
 abbrev pub twoNumbers : ℕ → Option ℕ → Option ℕ → Line
 twoNumbers kind p n = cond (eqb kind letterL) (ranged isPosition (λ p. ranged isLevels (λ n. Lift p n) n) p) Bad
 
--- the form of a line with these fields, by the rules: a kind alone, with one number or with two. "Decimal fields have no leading zero; nought is
--- `0`": `decimal`, of `text` specs/Decimal.antt.
+-- the form of a line with these fields, by the rules: a kind alone, with one number or with two. "Decimal fields have no leading zero;
+-- nought is `0`": `decimal`, of `text` specs/Decimal.antt.
 unfoldable pub formOf : Rules → Parts → Line
 formOf rules (last kind) = bare (letterOf kind)
 formOf rules (part kind (last f)) = oneNumber rules (letterOf kind) (decimal f)

@@ -21,8 +21,8 @@ pub record Stricter (few more : Rules) : Type 0 where
   pub nodes : few .nodes ≤ more .nodes
   pub lastGroup : few .lastGroup ≤ more .lastGroup
 
--- the rules of 01 for a sheet, before request 1: "the tree, at most 1,023 nodes and 8 different groups" (of groups it is `mostGroups`,
--- of `tree` specs/Tree.antt)
+-- the rules of 01 for a sheet: "group (1 to 9999)", "the tree, at most 1,023 nodes and 8 different groups" (the 8 are `mostGroups` of
+-- `tree` specs/Tree.antt, to this day)
 abbrev pub baseRules : Rules
 baseRules = record { nodes = 1023; lastGroup = 9999 }
 
@@ -30,6 +30,6 @@ baseRules = record { nodes = 1023; lastGroup = 9999 }
 abbrev pub earlierRules : Rules
 earlierRules = withNodes 255 baseRules
 
--- today's, with the groups that trees have
+-- today's, with request 4: "Reading, tree, code, patch and marks all accept 1 to 60,000": the groups that trees have
 abbrev pub sheetRules : Rules
 sheetRules = withLastGroup mostGroup earlierRules

@@ -98,7 +98,7 @@ pub fn marks() {
 pub fn groups() {
     case(b"group 0|G\t0\nE\n");
     case(b"group 01|G\t01\nE\n");
-    case(b"group 10000|G\t10000\nE\n");
+    case(b"group 60001|G\t60001\nE\n");
     case(b"group 65537|G\t65537\nE\n");
     case(b"group of 20 digits|G\t18446744073709551617\nE\n");
 }
@@ -113,6 +113,10 @@ pub fn fields() {
 
 pub fn group_limits() {
     case(b"group 9999|G\t9999\nE\n");
+    case(b"group 10000|G\t10000\nE\n");
+    case(b"group 60000|G\t60000\nE\n");
+    case(b"mark 60000|G\t60000\nK\t60000\nE\n");
+    case(b"mark 60001|G\t60000\nK\t60001\nE\n");
     case(b"mark 0|G\t1\nK\t0\nE\n");
 }
 

@@ -131,7 +131,7 @@ estimate (suc n) m t =
 
 -- leaves after a split, by these estimates; more than any tree's where it is not allowed
 abbrev pub never : ℕ
-never = 60000
+never = 100000
 
 abbrev pub costBy : Use → Form → Table → ℕ → ℕ → ℕ
 costBy No form t n step = never

@@ -11,7 +11,7 @@ use forms::Form;
 const FORMS: usize = 8;
 
 // More than any tree's leaves.
-const NEVER: usize = 60000;
+const NEVER: usize = 100000;
 
 // Whether the holder of the marked groups is a variable, the highest one, and whether its tree is to stand in the tree built.
 pub enum Holder {

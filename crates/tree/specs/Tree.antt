@@ -5,9 +5,9 @@ use mathlib.Core.List.{List, [], _∷_, _++_}
 use Prim.Native.Nat.{ℕ, _+_}
 use lib.Dec.{T, eqb, leb}
 
--- "A number from 1 to 9999 is a leaf: that group of lamps."
+-- "A number from 1 to .. is a leaf: that group of lamps"; request 4: "Reading, tree, code, patch and marks all accept 1 to 60,000."
 abbrev pub mostGroup : ℕ
-mostGroup = 9999
+mostGroup = 60000
 
 -- one of the numbers 1 to `last`
 abbrev pub isUpTo : ℕ → ℕ → Bool

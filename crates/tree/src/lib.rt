@@ -13,7 +13,7 @@ ghost use Rattle.tree.specs.InnerWriting.{Wrote};
 
 pub const LEAST_GROUP: u16 = 1;
 
-pub const MOST_GROUP: u16 = 9999;
+pub const MOST_GROUP: u16 = 60000;
 
 pub const UNION: u16 = 65001;
 

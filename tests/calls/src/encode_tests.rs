@@ -1,14 +1,16 @@
-//! `encode`: random trees, complete trees, chains, the limits and the order of faults.
+//! `encode`: random trees, complete trees, chains, the limits, the edges of groups and the order of faults.
 
 use crate::faults::{choices, Fault};
-use crate::inputs::{buffer_length, chain, filled, list, numbers, same, same_buffer, MOST_LEAVES};
+use crate::inputs::{
+    buffer_length, chain, count_last_group, filled, filled_after, list, numbers, same, same_buffer, MOST_LEAVES,
+};
 use calls::library;
 use reference::calls::{encode_call, CODE_BUFFER};
-use reference::coder::INSTRUCTION_NUMBERS;
+use reference::coder::{CUT, INSTRUCTION_NUMBERS, LOAD};
 use reference::random::Random;
 use reference::report::Report;
-use reference::shape::Shape;
-use reference::tree::{DIFFERENCE, MAXIMUM_NODES, UNION};
+use reference::shape::{Shape, GROUP_EDGES};
+use reference::tree::{DIFFERENCE, LAST_GROUP, MAXIMUM_NODES, UNION};
 
 struct Input {
     tree: Vec<u16>,
@@ -24,15 +26,16 @@ fn compare(name: &str, input: &Input, report: &mut Report) -> (u32, u16) {
     let text = numbers("tree", &input.tree) + &format!("buffer {}\n", input.buffer);
     report.count(format!("encode: {name}"));
     report.count(format!("encode: answered {}", expected[0]));
+    count_last_group("encode", &input.tree, answer[0], report);
     report.saved_test(&format!("encode, {name}"), result, &[("txt", text.as_bytes())]);
     let code = &out[..(expected[1] as usize * INSTRUCTION_NUMBERS).min(out.len())];
     (answer[0], code.chunks(INSTRUCTION_NUMBERS).map(|instruction| instruction[1]).max().unwrap_or(0))
 }
 
-/// The complete tree with so many leaves, a power of two.
+/// The complete tree with so many leaves, a power of two; each is the last group.
 fn complete(leaves: usize) -> Vec<u16> {
     if leaves == 1 {
-        return vec![7];
+        return vec![LAST_GROUP];
     }
     let half = complete(leaves / 2);
     [&half[..], &half, &[if leaves % 3 == 1 { UNION } else { DIFFERENCE }]].concat()
@@ -50,6 +53,20 @@ fn limits(report: &mut Report) {
             let answered = compare("chain", &Input { tree, buffer: CODE_BUFFER }, report);
             report.test("encode, chain by hand", same("number and register", &answered, &due));
         }
+    }
+}
+
+/// A number as the left and as the right leaf.
+fn group_edge(number: u16, is_group: bool, report: &mut Report) {
+    for (left, right) in [(number, 2), (2, number)] {
+        let tree = vec![left, right, DIFFERENCE];
+        let code = [LOAD, 0, left, 0, LOAD, 1, right, 0, CUT, 0, 0, 1];
+        let (due, code) = if is_group { ([0, 3], &code[..]) } else { ([12, 0], &[][..]) };
+        let mut out = filled(CODE_BUFFER);
+        let answer = library::encode(&tree, &mut out);
+        let result = same("answer", &answer, &due).and_then(|()| same_buffer(&out, &filled_after(CODE_BUFFER, code)));
+        report.test(&format!("encode, {tree:?} by hand"), result);
+        compare("edge of groups", &Input { tree, buffer: CODE_BUFFER }, report);
     }
 }
 
@@ -71,10 +88,11 @@ pub fn run(report: &mut Report) {
         compare("random", &input, report);
     }
     for _ in 0..100 {
-        let groups: Vec<u16> = (1..=9999).collect();
+        let groups: Vec<u16> = (1..=LAST_GROUP).collect();
         let tree = Shape::any(&mut random).tree(MOST_LEAVES, &groups, &mut random);
         compare("8,191 nodes", &Input { tree, buffer: CODE_BUFFER }, report);
     }
     limits(report);
+    GROUP_EDGES.iter().for_each(|&(number, is_group)| group_edge(number, is_group, report));
     fault_order(report);
 }

@@ -1,13 +1,13 @@
-//! `gather`: random trees and marks, large tables, the limits and the order of faults.
+//! `gather`: random trees and marks, large tables, the limits, the edges of groups and the order of faults.
 
 use crate::faults::{choices, Fault};
-use crate::inputs::{buffer_length, filled, list, numbers, same, same_buffer, MOST_LEAVES};
+use crate::inputs::{buffer_length, count_last_group, filled, list, numbers, same, same_buffer, MOST_LEAVES};
 use calls::library;
 use reference::calls::{GatherAnswer, TREE_BUFFER};
 use reference::check::{ensure, gathering};
 use reference::random::Random;
 use reference::report::Report;
-use reference::shape::{gatherable_table, join, some_groups, table_tree, Shape};
+use reference::shape::{gatherable_table, join, some_groups, table_tree, Shape, GROUP_EDGES};
 use reference::tree::{groups, Operator, DIFFERENCE, UNION};
 
 struct Input {
@@ -42,6 +42,7 @@ fn compare(name: &str, input: &Input, report: &mut Report) -> u32 {
     let text = numbers("tree", &input.tree) + &numbers("marks", &input.marks) + &format!("buffer {}\n", input.buffer);
     report.count(format!("gather: {name}"));
     report.count(format!("gather: answered {}", answer[0]));
+    count_last_group("gather", &input.tree, answer[0], report);
     report.saved_test(&format!("gather, {name}"), result, &[("txt", text.as_bytes())]);
     answer[0]
 }
@@ -133,6 +134,26 @@ fn samples(report: &mut Report) {
     }
 }
 
+/// A number in place of a marked group, of another, and of a mark alone.
+fn group_edge(number: u16, is_group: bool, report: &mut Report) {
+    let (n, u, d) = (number, UNION, DIFFERENCE);
+    // The tree, the marks and the numbers due of a group and of any other number.
+    let trees: [(&[u16], &[u16], u32, u32); 6] = [
+        (&[n, 2, d, 3, 4, d, u], &[n, 2], 0, 12),
+        (&[5, 2, d, n, 4, d, u], &[5, 2], 0, 12),
+        (&[n, 3, d, 2, 3, d, u], &[2, n], 0, 12),
+        (&[n, 3, d, 2, 4, d, u], &[n, 2], 19, 12),
+        (&[2, 3, u, 4, u, 5, u, 6, u, 7, u, 8, u, 9, u, n, u], &[n], 17, 12),
+        (&[5, 2, d, 3, 4, d, u], &[5, n], 18, 18),
+    ];
+    for (tree, marks, of_group, of_other) in trees {
+        let input = Input { tree: tree.to_vec(), marks: marks.to_vec(), buffer: TREE_BUFFER };
+        let answered = compare("edge of groups", &input, report);
+        let due = if is_group { of_group } else { of_other };
+        report.test(&format!("gather, {number} in {tree:?} by hand"), same("number", &answered, &due));
+    }
+}
+
 pub fn run(report: &mut Report) {
     let mut random = Random::new(4);
     for _ in 0..4000 {
@@ -145,5 +166,6 @@ pub fn run(report: &mut Report) {
         compare("largest", &largest(&mut random), report);
     }
     samples(report);
+    GROUP_EDGES.iter().for_each(|&(number, is_group)| group_edge(number, is_group, report));
     fault_order(report);
 }

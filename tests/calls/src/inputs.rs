@@ -1,8 +1,9 @@
 //! Random arguments, buffers and what is saved of a failing call.
 
 use reference::random::Random;
-use reference::shape::{some_groups, Shape};
-use reference::tree::{DIFFERENCE, MAXIMUM_NODES, UNION};
+use reference::report::Report;
+use reference::shape::{edge_number, some_groups, spread_groups, Shape};
+use reference::tree::{LAST_GROUP, MAXIMUM_NODES};
 
 /// The leaves of a tree of the most nodes.
 pub const MOST_LEAVES: usize = MAXIMUM_NODES.div_ceil(2);
@@ -10,6 +11,13 @@ pub const MOST_LEAVES: usize = MAXIMUM_NODES.div_ceil(2);
 /// A buffer with something in every place.
 pub fn filled(length: usize) -> Vec<u16> {
     (0..length).map(|at| (at as u16).wrapping_mul(40503) | 1).collect()
+}
+
+/// Such a buffer after a call that wrote this list.
+pub fn filled_after(length: usize, list: &[u16]) -> Vec<u16> {
+    let mut buffer = filled(length);
+    buffer[..list.len()].copy_from_slice(list);
+    buffer
 }
 
 /// Mostly few leaves, at times as many as a tree may have.
@@ -26,9 +34,9 @@ pub fn tree(most_groups: usize, random: &mut Random) -> Vec<u16> {
     Shape::any(random).tree(leaves, &groups, random)
 }
 
-/// A chain of 8,191 nodes to the left or to the right, each leaf another group.
+/// A chain of 8,191 nodes to the left or to the right, each leaf another group, from the first to the last.
 pub fn chain(operator: u16, to_the_left: bool) -> Vec<u16> {
-    let leaves = 1..=MOST_LEAVES as u16;
+    let leaves = spread_groups(MOST_LEAVES).into_iter();
     if to_the_left {
         leaves
             .flat_map(|leaf| [leaf, operator])
@@ -44,7 +52,7 @@ pub fn chain(operator: u16, to_the_left: bool) -> Vec<u16> {
 /// A list that may not be a tree any more.
 pub fn damaged(mut list: Vec<u16>, random: &mut Random) -> Vec<u16> {
     let at = random.below(list.len());
-    let number = random.pick(&[0, 1, 9999, 10000, 65000, UNION, DIFFERENCE, 65003, 65535]);
+    let number = edge_number(random);
     match random.below(6) {
         0 => list.truncate(at),
         1 => list.insert(at, number),
@@ -81,6 +89,25 @@ pub fn buffer_length(least: usize, random: &mut Random) -> usize {
 pub fn numbers(name: &str, numbers: &[u16]) -> String {
     let text: Vec<String> = numbers.iter().map(u16::to_string).collect();
     format!("{name} ({}): {}\n", numbers.len(), text.join(" "))
+}
+
+/// The category of calls that are done with the last group in a list.
+pub fn with_last_group(list: &str) -> String {
+    format!("{list}: the last group, answered 0")
+}
+
+/// The category of calls that are refused so with the number after the last group in a list.
+pub fn with_number_after(list: &str, number: u32) -> String {
+    format!("{list}: the number after the last group, answered {number}")
+}
+
+/// Counts a call that belongs to one of these categories.
+pub fn count_last_group(name: &str, list: &[u16], answered: u32, report: &mut Report) {
+    match answered {
+        0 if list.contains(&LAST_GROUP) => report.count(with_last_group(name)),
+        12 | 23 | 25 if list.contains(&(LAST_GROUP + 1)) => report.count(with_number_after(name, answered)),
+        _ => {}
+    }
 }
 
 /// The answer's number, and all numbers beside the expected ones.

@@ -1,7 +1,7 @@
-//! `lift`: random lifts, state 9, level 2, chains, the node limit and the order of faults.
+//! `lift`: random lifts, state 9, level 2, chains, the node limit, the edges of groups and the order of faults.
 
 use crate::faults::{choices, Fault};
-use crate::inputs::{buffer_length, chain, filled, list, numbers, same, same_buffer};
+use crate::inputs::{buffer_length, chain, count_last_group, filled, filled_after, list, numbers, same, same_buffer};
 use calls::library;
 use reference::calls::{lift_call, LiftAnswer, TREE_BUFFER};
 use reference::check::{ensure, table};
@@ -9,7 +9,7 @@ use reference::gather::numbered;
 use reference::lift::lift;
 use reference::random::Random;
 use reference::report::Report;
-use reference::shape::{join, levels_of_nodes, Shape};
+use reference::shape::{join, levels_of_nodes, Shape, GROUP_EDGES};
 use reference::tree::{groups, Nodes, Operator, DIFFERENCE, LAST_GROUP, MAXIMUM_NODES, UNION};
 
 struct Input {
@@ -80,6 +80,7 @@ fn compare(name: &str, input: &Input, report: &mut Report) -> u32 {
     let text = numbers("tree", &input.tree) + &rest;
     report.count(format!("lift: {name}"));
     report.count(format!("lift: answered {}", expected[0]));
+    count_last_group("lift", &input.tree, answer[0], report);
     report.saved_test(&format!("lift, {name}"), result, &[("txt", text.as_bytes())]);
     answer[0]
 }
@@ -264,6 +265,19 @@ fn limits(report: &mut Report) {
     }
 }
 
+/// Sample (v), and what its lift makes of it, with a number in place of one of its groups.
+fn group_edge(number: u16, is_group: bool, replaced: u16, report: &mut Report) {
+    let d = DIFFERENCE;
+    let put = |list: [u16; 7]| list.map(|group| if group == replaced { number } else { group });
+    let tree = put([3, 2, 1, d, d, 4, d]).to_vec();
+    let input = Input { tree, position: 2, levels: 1, buffer: TREE_BUFFER };
+    compare("edge of groups", &input, report);
+    let (due, list) = if is_group { ([0, 7, 4, 1], &put([3, 4, d, 2, 1, d, d])[..]) } else { ([12, 0, 0, 0], &[][..]) };
+    let (answer, out) = input.call();
+    let result = same("answer", &answer, &due).and_then(|()| same_buffer(&out, &filled_after(TREE_BUFFER, list)));
+    report.test(&format!("lift, {number} in place of {replaced} by hand"), result);
+}
+
 fn fault_order(report: &mut Report) {
     let faults: [Fault<Input>; 4] = [
         (11, |input| input.buffer = TREE_BUFFER - 1),
@@ -297,5 +311,8 @@ pub fn run(report: &mut Report) {
     states(&mut random, report);
     long_chains(report);
     limits(report);
+    for (number, is_group) in GROUP_EDGES {
+        (1..=4).for_each(|replaced| group_edge(number, is_group, replaced, report));
+    }
     fault_order(report);
 }

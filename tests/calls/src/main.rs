@@ -10,11 +10,12 @@ mod inputs;
 mod lift_tests;
 mod play_tests;
 
+use inputs::{with_last_group, with_number_after};
 use reference::report::Report;
 use std::path::PathBuf;
 use std::process::ExitCode;
 
-/// How often each number must have been answered.
+/// How often each number must have been answered, also about the last group.
 fn least_counts() -> Vec<(String, usize)> {
     let numbers: [(&str, &[usize]); 4] = [
         ("lift", &[0, 11, 12, 13, 14, 15, 16]),
@@ -25,7 +26,9 @@ fn least_counts() -> Vec<(String, usize)> {
     let counts = |(call, numbers): (&str, &[usize])| -> Vec<(String, usize)> {
         numbers.iter().map(|number| (format!("{call}: answered {number}"), 30)).collect()
     };
-    numbers.into_iter().flat_map(counts).collect()
+    let lists = [("lift", 12), ("gather", 12), ("encode", 12), ("play, code", 23), ("play, patch", 25)];
+    let last_group = lists.map(|(list, number)| [(with_last_group(list), 100), (with_number_after(list, number), 10)]);
+    numbers.into_iter().flat_map(counts).chain(last_group.into_iter().flatten()).collect()
 }
 
 fn main() -> ExitCode {

@@ -1,5 +1,7 @@
 //! Sheets whose keys were worked out by hand from 01.
 
+use reference::tree::LAST_GROUP;
+
 /// What a sheet's key must be.
 #[derive(Clone)]
 pub enum Expected {
@@ -29,7 +31,7 @@ pub fn text(line: &str) -> Vec<u8> {
         .collect()
 }
 
-const REFUSED: [(&str, &str); 62] = [
+const REFUSED: [(&str, &str); 60] = [
     // The end, and what comes after it.
     ("", "NO 10 1/"),
     ("G 1/", "NO 10 2/"),
@@ -75,7 +77,6 @@ const REFUSED: [(&str, &str); 62] = [
     // Fields.
     ("G 0/E/", "NO 2 1/"),
     ("G 01/E/", "NO 2 1/"),
-    ("G 10000/E/", "NO 2 1/"),
     ("G 65537/E/", "NO 2 1/"),
     ("G 18446744073709551617/E/", "NO 2 1/"),
     ("G _1/E/", "NO 2 1/"),
@@ -90,7 +91,6 @@ const REFUSED: [(&str, &str); 62] = [
     ("G +1/E/", "NO 2 1/"),
     ("G 1\0/E/", "NO 2 1/"),
     ("G 1/K 0/E/", "NO 2 2/"),
-    ("G 1/K 10000/E/", "NO 2 2/"),
     ("G 1/L 8191 1/E/", "NO 2 2/"),
     ("G 1/L 0 100/E/", "NO 2 2/"),
     ("G 1/L 0 0/E/", "NO 2 2/"),
@@ -101,7 +101,7 @@ const REFUSED: [(&str, &str); 62] = [
 ];
 
 /// 01's example and its samples, (iv) and (vi) as 02 has them; where no key stands the gathered tree is free.
-const SAMPLES: [(&str, &str); 14] = [
+const SAMPLES: [(&str, &str); 13] = [
     (
         "G 1/G 2/D/G 3/D/G 4/U/G 5/D/L 0 2/K 2/K 3/E/",
         "LIFT 0 0 2/HELD 0 1 3/LOAD 0 2/LOAD 1 3/ADD 0 0 1/LOAD 1 5/ADD 0 0 1/LOAD 1 1/CUT 0 1 0/LOAD 1 4/LOAD 2 5/CUT 1 1 2/ADD 0 0 1/",
@@ -125,21 +125,41 @@ const SAMPLES: [(&str, &str); 14] = [
     ("G 1/G 2/D/G 2/G 1/D/U/K 1/E/", "HELD 19/"),
     ("G 1/G 1/G 2/D/D/K 1/E/", ""),
     // The least and the greatest numbers.
-    ("G 9999/E/", "LOAD 0 9999/"),
     ("G 1/K 1/E/", "HELD 0 1 1/LOAD 0 1/"),
     ("G 1/L 0 99/E/", "LIFT 14 0 0/LOAD 0 1/"),
     ("G 1/L 8190 1/L 1 1/E/", "LIFT 13 8190 0/LIFT 13 1 0/LOAD 0 1/"),
 ];
 
+/// The groups that take the places of 1 to 5 in the samples.
+const LARGE_GROUPS: [u16; 5] = [LAST_GROUP, 10_000, LAST_GROUP - 1, 9999, 32_768];
+
+/// Lines of a sheet or a key with large groups in place of 1 to 5.
+fn with_large_groups(lines: &str) -> String {
+    let renamed = |line: &str| {
+        let mut fields: Vec<String> = line.split(' ').map(str::to_string).collect();
+        let place = match fields[0].as_str() {
+            "G" | "K" => 1,
+            "LOAD" => 2,
+            _ => return line.to_string(),
+        };
+        let group: usize = fields[place].parse().expect("a group");
+        fields[place] = LARGE_GROUPS[group - 1].to_string();
+        fields.join(" ")
+    };
+    lines.split('/').map(renamed).collect::<Vec<String>>().join("/")
+}
+
+fn case(sheet: &str, key: &str) -> Case {
+    Case {
+        name: format!("case {sheet:?}"),
+        bytes: text(sheet),
+        expected: if key.is_empty() { Expected::Gathered } else { Expected::Key(text(key)) },
+    }
+}
+
 pub fn cases() -> Vec<Case> {
-    let all = REFUSED.iter().chain(&SAMPLES);
-    let mut cases: Vec<Case> = all
-        .map(|&(sheet, key)| Case {
-            name: format!("case {sheet:?}"),
-            bytes: text(sheet),
-            expected: if key.is_empty() { Expected::Gathered } else { Expected::Key(text(key)) },
-        })
-        .collect();
+    let mut cases: Vec<Case> = REFUSED.iter().chain(&SAMPLES).map(|&(sheet, key)| case(sheet, key)).collect();
+    cases.extend(SAMPLES.map(|(sheet, key)| case(&with_large_groups(sheet), &with_large_groups(key))));
     for byte in [b'/', 127, 128, 255] {
         cases.push(Case {
             name: format!("case of byte {byte}"),

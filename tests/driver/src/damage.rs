@@ -1,6 +1,7 @@
 //! Damage to a sheet's bytes.
 
 use reference::random::Random;
+use reference::shape::edge_number;
 
 fn lines(bytes: &[u8]) -> Vec<Vec<u8>> {
     bytes.split_inclusive(|&byte| byte == b'\n').map(<[u8]>::to_vec).collect()
@@ -58,7 +59,8 @@ fn swap_lines(bytes: Vec<u8>, random: &mut Random) -> Vec<u8> {
 /// A line of good form, or nearly so, anywhere.
 fn insert_line(bytes: Vec<u8>, random: &mut Random) -> Vec<u8> {
     let mut lines = lines(&bytes);
-    let number = random.pick(&[0, 1, 2, 9, 99, 100, 8190, 8191, 9999, 10000]);
+    let small = random.pick(&[0, 1, 2, 9, 99, 100, 8190, 8191]);
+    let number = if random.one_in(2) { small } else { edge_number(random) };
     let line = match random.below(6) {
         0 => format!("G\t{number}\n"),
         1 => format!("K\t{number}\n"),
@@ -71,10 +73,31 @@ fn insert_line(bytes: Vec<u8>, random: &mut Random) -> Vec<u8> {
     lines.concat()
 }
 
+/// Another number in a line of a group or a mark.
+fn change_group(bytes: Vec<u8>, random: &mut Random) -> Vec<u8> {
+    let mut lines = lines(&bytes);
+    let at = random.below(lines.len());
+    if lines[at].starts_with(b"G\t") || lines[at].starts_with(b"K\t") {
+        lines[at].truncate(2);
+        lines[at].extend(format!("{}\n", edge_number(random)).into_bytes());
+    }
+    lines.concat()
+}
+
 type Damage = fn(Vec<u8>, &mut Random) -> Vec<u8>;
 
-const DAMAGES: [Damage; 9] =
-    [flip_bit, replace_byte, insert_byte, remove_byte, truncate, drop_line, repeat_line, swap_lines, insert_line];
+const DAMAGES: [Damage; 10] = [
+    flip_bit,
+    replace_byte,
+    insert_byte,
+    remove_byte,
+    truncate,
+    drop_line,
+    repeat_line,
+    swap_lines,
+    insert_line,
+    change_group,
+];
 
 /// One to three kinds of damage.
 pub fn damaged(mut bytes: Vec<u8>, random: &mut Random) -> Vec<u8> {

@@ -8,7 +8,7 @@ use reference::random::Random;
 use reference::refusal::NOT_GATHERABLE;
 use reference::shape::{difference, gatherable_table, join, levels_of_nodes, some_groups, table_tree, union, Shape};
 use reference::sheet::{Sheet, SHEET_NODES};
-use reference::tree::{groups, Node, Nodes, Operator, DIFFERENCE, UNION};
+use reference::tree::{groups, Node, Nodes, Operator, DIFFERENCE, LAST_GROUP, UNION};
 
 /// A kind of sheet and how many of a hundred are of it.
 type Kind = (&'static str, usize, fn(&mut Random) -> Vec<u8>);
@@ -265,18 +265,20 @@ fn grown(random: &mut Random) -> Sheet {
 }
 
 /// A whole sheet with one line too many: a ninth group, a node past the limit, an operator without
-/// operands, a mark that is not in the tree, or a mark twice.
+/// operands, a mark that is not in the tree, a mark twice, or the number after the last group.
 fn one_fault(random: &mut Random) -> Vec<u8> {
     let groups = some_groups(9, random);
     let mut sheet = unmarked(Shape::any(random).tree(SHEET_NODES.div_ceil(2), &groups[..8], random));
     mark_some(&mut sheet, random);
-    match random.below(5) {
+    match random.below(7) {
         0 => {
             sheet.tree = (0..20).map(|_| random.pick(&groups)).chain(groups.clone()).collect();
         }
         1 => sheet.tree.push(random.pick(&groups)),
         2 => sheet.tree.truncate(random.below(40)),
         3 => sheet.marks.push(groups[8]),
+        4 if random.one_in(2) => sheet.tree.insert(random.below(SHEET_NODES), LAST_GROUP + 1),
+        4 => sheet.marks.push(LAST_GROUP + 1),
         _ => sheet.marks.push(sheet.marks[0]),
     }
     if random.one_in(2) {

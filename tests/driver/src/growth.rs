@@ -1,4 +1,4 @@
-//! Sheets whose lifts bring the tree to exactly the node limit, or one node pair past it.
+//! Sheets whose lifts bring the tree to exactly the node limit, or one node pair past it, or to many registers.
 
 use reference::lift::lift;
 use reference::random::Random;
@@ -14,6 +14,10 @@ struct Growth {
 }
 
 impl Growth {
+    fn new(tree: Vec<u16>) -> Growth {
+        Growth { written: tree.clone(), current: tree, positions: Vec::new() }
+    }
+
     /// Puts the tree into a larger one, where `before` nodes come before it, and lifts a node there.
     fn add_layer(&mut self, layer: impl Fn(&[u16]) -> Vec<u16>, before: usize, position: usize) {
         self.written = layer(&self.written);
@@ -47,6 +51,18 @@ impl Growth {
             self.add_layer(|tree| layer(&b, &a, tree), 3, 1);
         }
     }
+
+    /// ((A U B)−C) U D, A lifted: C, all that was there, is written twice, and the tree needs one register more.
+    fn double(&mut self, groups: &[u16], random: &mut Random) {
+        let [a, b, d] = [(); 3].map(|()| [random.pick(groups)]);
+        self.add_layer(|tree| union(&difference(&union(&a, &b), tree), &d), 3, 0);
+    }
+
+    /// The tree as written with its lifts.
+    fn sheet(&self) -> Sheet {
+        let lifts = self.positions.iter().map(|&position| (position, 1)).collect();
+        Sheet { tree: self.written.clone(), lifts, marks: Vec::new() }
+    }
 }
 
 /// The size of D for which the last lift comes to `result` nodes: six nodes are added besides D twice.
@@ -63,7 +79,7 @@ pub fn grown_to_limit(random: &mut Random) -> (Sheet, Vec<u16>) {
     loop {
         let leaves = random.between(1, 52);
         let tree = Shape::any(random).tree(leaves, &groups, random);
-        let mut growth = Growth { written: tree.clone(), current: tree, positions: Vec::new() };
+        let mut growth = Growth::new(tree);
         while 3 * growth.current.len() < result {
             growth.triple(&groups, random);
         }
@@ -72,7 +88,18 @@ pub fn grown_to_limit(random: &mut Random) -> (Sheet, Vec<u16>) {
             continue;
         }
         growth.double_last(size.div_ceil(2), &groups, random);
-        let lifts = growth.positions.iter().map(|&position| (position, 1)).collect();
-        return (Sheet { tree: growth.written, lifts, marks: Vec::new() }, growth.current);
+        return (growth.sheet(), growth.current);
     }
+}
+
+/// Lifts that double a complete tree, whose leaves are at the level `height`, until it has over 4,000 nodes and needs
+/// 11 or 12 registers.
+pub fn grown_to_many_registers(height: usize, groups: &[u16], random: &mut Random) -> Sheet {
+    let complete = (0..height).fold(vec![groups[0]], |half, _| difference(&half, &half));
+    let mut growth = Growth::new(complete);
+    // A doubling adds A, B, D and four operators.
+    while 2 * growth.current.len() + 7 <= MAXIMUM_NODES {
+        growth.double(groups, random);
+    }
+    growth.sheet()
 }

@@ -1,9 +1,14 @@
 //! Sheets on either side of each limit of 01 and 02.
 
 use crate::cases::{text, Case, Expected};
+use crate::growth::grown_to_many_registers;
 use reference::random::Random;
-use reference::shape::{difference, levels_of_nodes, union, Shape};
+use reference::shape::{difference, levels_of_nodes, union, Shape, GROUP_EDGES};
 use reference::sheet::{Sheet, SHEET_BYTES, SHEET_NODES};
+use reference::tree::LAST_GROUP;
+
+/// So many of these sheets have a key that loads a group of five digits into a register of two.
+pub const LONG_KEYS: usize = 8;
 
 fn case(name: &str, bytes: Vec<u8>, expected: Expected) -> Case {
     Case { name: format!("limit: {name}"), bytes, expected }
@@ -76,6 +81,53 @@ fn group_limit() -> Vec<Case> {
     ]
 }
 
+/// A number in each place where a group may stand: the sheet, the key if it is a group, the line if it is none.
+fn group_sheets(number: u16) -> [(String, String, usize); 8] {
+    [
+        (format!("G {number}/E/"), format!("LOAD 0 {number}/"), 1),
+        (format!("G 2/G {number}/D/E/"), format!("LOAD 0 2/LOAD 1 {number}/CUT 0 0 1/"), 2),
+        (format!("G 2/G 3/G {number}/E/"), "NO 7 4/".to_string(), 3),
+        (format!("G 2/G 3/G 4/G 5/G 6/G 7/G 8/G 9/G {number}/E/"), "NO 6 9/".to_string(), 9),
+        (format!("G {number}/G 2/D/K {number}/E/"), format!("HELD 0 1 1/LOAD 0 {number}/LOAD 1 2/CUT 0 0 1/"), 1),
+        (format!("G 2/G 3/U/K {number}/E/"), "NO 8 4/".to_string(), 4),
+        (format!("G 2/E/G {number}/"), "NO 3 3/".to_string(), 3),
+        (format!("G 2/E/K {number}/"), "NO 3 3/".to_string(), 3),
+    ]
+}
+
+fn group_edges() -> Vec<Case> {
+    let mut cases = Vec::new();
+    for (number, is_group) in GROUP_EDGES {
+        for (sheet, key, line) in group_sheets(number) {
+            let key = if is_group { key } else { format!("NO 2 {line}/") };
+            cases.push(case(&format!("{sheet:?}"), text(&sheet), Expected::Key(text(&key))));
+        }
+    }
+    cases
+}
+
+/// Fields of too large a number, some of which come to a group when cut to 16, 32 or 64 bits, and a group after a nought.
+fn long_group_fields() -> Vec<Case> {
+    let with_high_bit = |bit: usize| ((1_u128 << bit) + u128::from(LAST_GROUP)).to_string();
+    let mut fields = [16, 32, 64].map(with_high_bit).to_vec();
+    fields.extend([format!("0{LAST_GROUP}"), format!("{LAST_GROUP}0"), "65536".to_string(), "99999".to_string()]);
+    let sheets = fields.iter().flat_map(|field| [(format!("G {field}/E/"), 1), (format!("G 1/K {field}/E/"), 2)]);
+    sheets.map(|(sheet, line)| refused(&format!("{sheet:?}"), text(&sheet), 2, line)).collect()
+}
+
+/// Keys with lines of 14 bytes, of up to 8,185 instructions, at last also with nearly 10,000 lifts.
+fn long_keys() -> Vec<Case> {
+    let groups: Vec<u16> = (LAST_GROUP - 7..=LAST_GROUP).collect();
+    let mut random = Random::new(1988);
+    let mut sheets: Vec<Sheet> =
+        (0..LONG_KEYS - 1).map(|height| grown_to_many_registers(height, &groups, &mut random)).collect();
+    let mut filled_up = grown_to_many_registers(0, &groups, &mut random);
+    let bytes_left = SHEET_BYTES - filled_up.print().len();
+    filled_up.lifts.extend(vec![(0, 1); bytes_left / "L\t0\t1\n".len()]);
+    sheets.push(filled_up);
+    sheets.iter().enumerate().map(|(at, sheet)| accepted(&format!("long key {at}"), sheet.print())).collect()
+}
+
 /// A sheet of exactly so many bytes, filled up with lifts.
 fn sheet_of(bytes: usize) -> Vec<u8> {
     let mut text = String::from("G\t1\nG\t2\nD\nG\t3\nD\nG\t4\nU\nG\t5\nD\n");
@@ -136,5 +188,6 @@ fn level_limit() -> Vec<Case> {
 
 pub fn limits() -> Vec<Case> {
     let nodes = [node_limit(), line_after_most_nodes()];
-    nodes.into_iter().chain([group_limit(), byte_limit(), deep_lifts(), level_limit()]).flatten().collect()
+    let groups = [group_limit(), group_edges(), long_group_fields(), long_keys()];
+    nodes.into_iter().chain(groups).chain([byte_limit(), deep_lifts(), level_limit()]).flatten().collect()
 }

@@ -32,6 +32,11 @@ fn least_counts(sheets: usize) -> Vec<(String, usize)> {
     least.extend((2..=10).map(|number| per_thousand(Trait::Refused(number), 3)));
     least.extend((13..=16).map(|number| per_thousand(Trait::LiftRefused(number), 5)));
     least.extend([
+        (format!("{:?}", Trait::LongestLoad), limits::LONG_KEYS),
+        per_thousand(Trait::GroupPastLast, 3),
+        per_thousand(Trait::FiveDigitGroup, 200),
+        per_thousand(Trait::FiveDigitMark, 50),
+        per_thousand(Trait::LastGroup, 20),
         per_thousand(Trait::MostNodes, 5),
         per_thousand(Trait::NoMarks, 100),
         per_thousand(Trait::GatheredAlready, 50),

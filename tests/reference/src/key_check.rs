@@ -7,13 +7,22 @@ use crate::key::{key, lifts, Held, Key, Lifts};
 use crate::lift::Step;
 use crate::player::{index, lamp_bytes, play, LAST_LAMP};
 use crate::random::Random;
-use crate::sheet::{read, Sheet, SHEET_NODES};
+use crate::refusal::NO_SUCH_FORM;
+use crate::sheet::{read, Fault, Sheet, SHEET_NODES};
 use crate::tree::{groups, select, Nodes, Operator, LAST_GROUP, MAXIMUM_NODES};
 
 /// What a sheet and its key show; the driver counts them.
 #[derive(Clone, Copy, PartialEq, Eq, PartialOrd, Ord, Debug)]
 pub enum Trait {
     Refused(u16),
+    /// Refused with 2 for the number after the last group.
+    GroupPastLast,
+    /// Accepted with groups or marks of five digits, or with the last group.
+    FiveDigitGroup,
+    FiveDigitMark,
+    LastGroup,
+    /// A key with a group of five digits loaded into a register of two.
+    LongestLoad,
     MostNodes,
     NoMarks,
     GatheredAlready,
@@ -145,6 +154,32 @@ fn lift_traits(lifts: &Lifts) -> Vec<Trait> {
     traits
 }
 
+/// What a sheet and its code show of large group numbers.
+fn group_traits(sheet: &Sheet, code: &[u16]) -> Vec<Trait> {
+    let five_digits = |group: &u16| (10_000..=LAST_GROUP).contains(group);
+    let mut instructions = code.chunks(INSTRUCTION_NUMBERS);
+    let longest = |instruction: &[u16]| instruction[0] == LOAD && instruction[1] > 9 && five_digits(&instruction[2]);
+    let traits = [
+        (Trait::FiveDigitGroup, sheet.tree.iter().any(five_digits)),
+        (Trait::FiveDigitMark, sheet.marks.iter().any(five_digits)),
+        (Trait::LastGroup, sheet.tree.contains(&LAST_GROUP)),
+        (Trait::LongestLoad, instructions.any(longest)),
+    ];
+    traits.into_iter().filter(|(_, shown)| *shown).map(|(trait_, _)| trait_).collect()
+}
+
+/// What a refused sheet shows.
+fn refused_traits(bytes: &[u8], fault: &Fault) -> Vec<Trait> {
+    let refused = Trait::Refused(fault.number);
+    if fault.number != NO_SUCH_FORM {
+        return vec![refused];
+    }
+    let line = bytes.split(|&byte| byte == b'\n').nth(fault.line - 1);
+    let past_last = ["G", "K"].map(|kind| format!("{kind}\t{}", LAST_GROUP + 1));
+    let for_group = past_last.iter().any(|past_last| line == Some(past_last.as_bytes()));
+    [refused].into_iter().chain(for_group.then_some(Trait::GroupPastLast)).collect()
+}
+
 /// The looks of a done lift are its levels.
 fn looks(sheet: &Sheet, printed: &Key) -> Result<(), String> {
     let mut lifts = sheet.lifts.iter().zip(&printed.lifts);
@@ -183,6 +218,7 @@ fn accepted(sheet: &Sheet, printed: &[u8], random: &mut Random) -> Result<Vec<Tr
         closed_run(&parsed.code, first, count, &sheet.marks)?;
     }
     let mut traits = lift_traits(&lifts);
+    traits.extend(group_traits(sheet, &parsed.code));
     traits.push(marks);
     if sheet.tree.len() == SHEET_NODES {
         traits.push(Trait::MostNodes);
@@ -194,6 +230,6 @@ fn accepted(sheet: &Sheet, printed: &[u8], random: &mut Random) -> Result<Vec<Tr
 pub fn sheet_key(bytes: &[u8], printed: &[u8], random: &mut Random) -> Result<Vec<Trait>, String> {
     match read(bytes) {
         Ok(sheet) => accepted(&sheet, printed, random),
-        Err(fault) => same_bytes(printed, &fault.print()).map(|()| vec![Trait::Refused(fault.number)]),
+        Err(fault) => same_bytes(printed, &fault.print()).map(|()| refused_traits(bytes, &fault)),
     }
 }

@@ -1,19 +1,52 @@
 //! Random trees of many shapes, and trees put together by hand.
 
 use crate::random::Random;
-use crate::tree::{groups, Node, Nodes, Operator, DIFFERENCE, UNION};
+use crate::tree::{groups, Node, Nodes, Operator, DIFFERENCE, LAST_GROUP, UNION};
 
-/// `count` different groups; small and large numbers both occur.
+/// Numbers about the least group, the one that was the last until request 4, the last and the operators,
+/// and whether each is a group.
+pub const GROUP_EDGES: [(u16, bool); 11] = [
+    (0, false),
+    (1, true),
+    (9999, true),
+    (10_000, true),
+    (LAST_GROUP, true),
+    (LAST_GROUP + 1, false),
+    (65_000, false),
+    (UNION, false),
+    (DIFFERENCE, false),
+    (65_003, false),
+    (u16::MAX, false),
+];
+
+/// One of the numbers about the edges, whether or not it is a group.
+pub fn edge_number(random: &mut Random) -> u16 {
+    random.pick(&GROUP_EDGES).0
+}
+
+/// The groups among them.
+pub fn edge_groups() -> Vec<u16> {
+    GROUP_EDGES.into_iter().filter(|&(_, is_group)| is_group).map(|(number, _)| number).collect()
+}
+
+/// `count` different groups; small and large numbers and those at the edges all occur.
 pub fn some_groups(count: usize, random: &mut Random) -> Vec<u16> {
-    let last = random.pick(&[9, 99, 9999]).max(count);
+    let last = random.pick(&[9, 99, usize::from(LAST_GROUP)]).max(count);
+    let edges = edge_groups();
     let mut groups = Vec::new();
     while groups.len() < count {
-        let group = random.between(1, last) as u16;
+        let group = if random.one_in(8) { random.pick(&edges) } else { random.between(1, last) as u16 };
         if !groups.contains(&group) {
             groups.push(group);
         }
     }
     groups
+}
+
+/// `count` different groups from the first to the last, in steps as even as can be.
+pub fn spread_groups(count: usize) -> Vec<u16> {
+    let steps = usize::from(LAST_GROUP) - 1;
+    (0..count).map(|at| (1 + at * steps / (count - 1)) as u16).collect()
 }
 
 /// How a tree splits its leaves, and how often an operator is a difference, in eighths.

@@ -2,7 +2,8 @@
 
 pub const UNION: u16 = 65001;
 pub const DIFFERENCE: u16 = 65002;
-pub const LAST_GROUP: u16 = 9999;
+/// 02, request 4.
+pub const LAST_GROUP: u16 = 60_000;
 pub const MAXIMUM_NODES: usize = 8191;
 
 #[derive(Clone, Copy, PartialEq, Eq, Debug)]
