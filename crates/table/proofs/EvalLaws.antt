@@ -53,6 +53,20 @@ module _ {v : ℕ → Bool} {t : Tree} {list : List ℕ} {i : ℕ} {waiting : Li
     left = rw (stacked-push (leafValue v) nodeValue false waiting top value r, e) (rw (here list i h, entry-leaf (getD list i 0) (group-at list t (p .whole) i h l)) at (p .left));
   }
 
+  -- a leaf with its operator behind it: what the operator makes of the value and the leaf
+  pub evaluating-both : (b c : Bool) → i < length list → getD list i 0 < sign union → b ≡ v (getD list i 0)
+      → i + 1 < length list → sign union ≤ getD list (i + 1) 0 → c ≡ apply (operatorOf (getD list (i + 1) 0)) value b
+      → Evaluating v t list (i + 2) waiting top c
+  unfolding pass
+  evaluating-both b c h l e h′ l′ f =
+      let o = operator-at list t (p .whole) (i + 1) h′ l′ in
+      let two : i + 2 ≡ i + 1 + 1 = omega arith in
+      record {
+        whole = p .whole;
+        left = rw (two, f, e, operator-of _ (o .0) (o .1))
+            (rw (here list i h, entry-leaf (getD list i 0) (group-at list t (p .whole) i h l), here list (i + 1) h′, o .1, entry-sign (o .0)) at (p .left));
+      }
+
   -- an operator finds two operands, and leaves one
   operating : (o : Operator) (k : ℕ) (f : List Bool → Option (List Bool)) {s : List Bool} → andThen (leafValue v) nodeValue (operated (leafValue v) nodeValue i o (value ∷ stacked false waiting k)) f ≡ some s
       → (1 ≤ k) × (f (apply o (getD waiting (k - 1) false) value ∷ stacked false waiting (k - 1)) ≡ some s)

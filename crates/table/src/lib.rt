@@ -2,8 +2,8 @@
 ghost use mathlib.Core.Path.{_≡_};
 ghost use mathlib.Core.List.{List};
 ghost use Prim.Native.Nat.{ℕ, _≤_, _<_};
-ghost use lib.ListN.{length};
-ghost use Rattle.tree.specs.Tree.{Tree, mostNodes, postfix, apply};
+ghost use lib.ListN.{length, getD};
+ghost use Rattle.tree.specs.Tree.{union, sign, Tree, mostNodes, postfix, apply};
 ghost use Rattle.table.specs.InnerTable.{rowCount, valueAt, table, operatorOf, Listed, IsPlace, ArePlaces};
 
 pub const ROWS: usize = 256;
@@ -43,18 +43,29 @@ fn places(list: &[u16], groups: &[u16]) -> [u8; tree::MOST_NODES]
     places
 }
 
-// What the operator x makes of its operands' values.
+// What the operator x makes of its operands' values, without a branch: operators come in any order.
 fn combine(x: u16, a: bool, b: bool) -> bool
     ensures { λ r. ⌜ r ≡ apply (operatorOf x) a b ⌝ }
 {
-    if x == tree::UNION {
-        return a | b;
+    (a & !b) | (b & (x == tree::UNION))
+}
+
+// The operator at an index of the list; 0 where the list is over or has a leaf there.
+fn operator_at(list: &[u16], i: usize) -> u16
+    ensures { λ r. ⌜ ((r ≡ 0 → ⊥) → (i < length (now (list .entry))) × (sign union ≤ r) × (r ≡ getD (now (list .entry)) i 0)) ⌝ }
+{
+    if list.len() <= i {
+        return 0;
     }
-    a & !b
+    let x = list[i];
+    if x < tree::UNION {
+        return 0;
+    }
+    x
 }
 
 // The tree's value at a row, from the row's bits. `value` is the latest operand's; the values of the operands that wait below it
-// stand in `waiting`, from index 1 on.
+// stand in `waiting`, from index 1 on. A leaf that is a right operand never waits.
 fn eval(list: &[u16], places: &[u8; tree::MOST_NODES], row: usize) -> bool
     requires { ⌜ Listed (now list) × (row < rowCount) × ((groups : List ℕ) × ArePlaces (now list) groups (now places)) ⌝ }
     ensures { λ r. ⌜ ((t : Tree) (groups : List ℕ) → now (list .entry) ≡ postfix t → ArePlaces (now (list .entry)) groups (now (places .entry))
@@ -67,10 +78,17 @@ fn eval(list: &[u16], places: &[u8; tree::MOST_NODES], row: usize) -> bool
     while i < list.len() {
         let x = list[i];
         if x < tree::UNION {
-            waiting[top] = value;
-            value = (row >> places[i]) % 2 == 1;
-            top += 1;
-            i += 1;
+            let leaf = (row >> places[i]) % 2 == 1;
+            let next = operator_at(list, i + 1);
+            if next == 0 {
+                waiting[top] = value;
+                value = leaf;
+                top += 1;
+                i += 1;
+            } else {
+                value = combine(next, value, leaf);
+                i += 2;
+            }
         } else {
             top -= 1;
             value = combine(x, waiting[top], value);

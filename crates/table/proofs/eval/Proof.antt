@@ -2,10 +2,10 @@ use mathlib.Core.Path.{_≡_, refl}
 use mathlib.Core.List.{List}
 use Prim.Native.Nat.{ℕ, _≤_, _-_}
 use native.Mathlib.Omega.{arith}
-use lib.ListN.{length, length-set}
-use Rattle.tree.specs.Tree.{Tree, postfix}
+use lib.ListN.{length, getD, length-set}
+use Rattle.tree.specs.Tree.{Tree, postfix, mostGroups}
 use Rattle.table.specs.InnerTable.{filling, ArePlaces}
-use Rattle.table.proofs.EvalLaws.{Evaluating, evaluating-start, evaluating-leaf, evaluating-operator, evaluating-end}
+use Rattle.table.proofs.EvalLaws.{Evaluating, evaluating-start, evaluating-leaf, evaluating-both, evaluating-operator, evaluating-end}
 use Rattle.table.proofs.eval.Statement.{statement}
 use Rattle.table.proofs.eval.Tie as tie
 
@@ -26,19 +26,27 @@ mul-x c = omega arith
 shared-slice-read-x : tie.Need-shared-slice-read-x Inv-loop μ-loop
 shared-slice-read-x c = omega arith
 
+element-copy-out-leaf : tie.Need-element-copy-out-leaf Inv-loop μ-loop
+element-copy-out-leaf c = omega arith
+
+-- a leaf's place is one of a row's bits, or the bit after them
+small : (c : tie.After-leaf Inv-loop μ-loop) → getD (c .before .before .before .before .before .before .args .places .now) (c .before .before .before .before .loop .i) 0 ≤ mostGroups
+small c = c .before .before .before .before .before .before .pre .2 .1 .each _ (c .before .before .before .loop-test .taken) .small
+
+cast-leaf : tie.Need-cast-leaf Inv-loop μ-loop
+cast-leaf c = omega (arith, small c)
+
+shr-leaf : tie.Need-shr-leaf Inv-loop μ-loop
+shr-leaf c = omega (arith, small c)
+
+add-operator-at : tie.Need-add-operator-at Inv-loop μ-loop
+add-operator-at c = omega arith
+
+operator-at-requires : tie.Need-operator-at-requires Inv-loop μ-loop
+operator-at-requires c κs = tt
+
 array-write-waiting : tie.Need-array-write-waiting Inv-loop μ-loop
 array-write-waiting c = omega arith
-
-element-copy-out-value : tie.Need-element-copy-out-value Inv-loop μ-loop
-element-copy-out-value c = omega arith
-
-shr-value : tie.Need-shr-value Inv-loop μ-loop
-shr-value c =
-    let pre = c .before .before .before .before .before .before .pre in
-    omega (arith, pre .2 .1 .each (c .before .before .before .before .loop .i) (c .before .before .before .loop-test .taken) .small)
-
-cast-value : tie.Need-cast-value Inv-loop μ-loop
-cast-value c = omega (arith, shr-value c)
 
 add-top : tie.Need-add-top Inv-loop μ-loop
 add-top c = omega arith
@@ -51,22 +59,14 @@ loop-less c = omega arith
 
 loop-again : tie.Need-loop-again Inv-loop μ-loop
 loop-again c =
-    let pre = c .before .before .before .before .before .before .pre in
-    let loop = c .before .before .before .before .loop in
-    let less = c .before .before .before .loop-test .taken in (
+    let pre = c .before .before .before .before .before .before .before .before .pre in
+    let loop = c .before .before .before .before .before .before .loop in
+    let less = c .before .before .before .before .before .loop-test .taken in (
       omega arith,
       omega arith,
       simp length-set (loop .inv .2),
-      λ t groups e p. evaluating-leaf (loop .inv .3 t groups e p) _ less (c .before .if1 .taken) (omega arith) (p .each (loop .i) less .says _ (pre .1)),
+      λ t groups e p. evaluating-leaf (loop .inv .3 t groups e p) _ less (c .before .before .before .if1 .taken) (omega arith) (p .each (loop .i) less .says _ (pre .1)),
     )
-
-sub-top : tie.Need-sub-top Inv-loop μ-loop
-sub-top c =
-    let pre = c .before .before .before .before .before .pre in
-    evaluating-operator (c .before .before .before .loop .inv .3 (pre .0 .0) (pre .2 .0) (pre .0 .1) (pre .2 .1)) _ (c .before .before .loop-test .taken) (c .if1 .left) refl .0
-
-array-read-combine : tie.Need-array-read-combine Inv-loop μ-loop
-array-read-combine c = omega arith
 
 combine-requires : tie.Need-combine-requires Inv-loop μ-loop
 combine-requires c κs = tt
@@ -79,11 +79,41 @@ loop-less-2 c = omega arith
 
 loop-again-2 : tie.Need-loop-again-2 Inv-loop μ-loop
 loop-again-2 c =
+    let pre = c .before .before .before .before .before .before .before .before .before .pre in
+    let loop = c .before .before .before .before .before .before .before .loop in
+    let less = c .before .before .before .before .before .before .loop-test .taken in
+    let next = c .before .before .operator-at .ensures (c .before .if2 .left) in (
+      omega (arith, next .0),
+      omega arith,
+      loop .inv .2,
+      λ t groups e p. evaluating-both (loop .inv .3 t groups e p) _ _ less (c .before .before .before .before .if1 .taken) (p .each (loop .i) less .says _ (pre .1))
+          (next .0) (omega (arith, next .1, next .2)) (rw (next .2) at (c .combine .ensures)),
+    )
+
+sub-top : tie.Need-sub-top Inv-loop μ-loop
+sub-top c =
+    let pre = c .before .before .before .before .before .pre in
+    evaluating-operator (c .before .before .before .loop .inv .3 (pre .0 .0) (pre .2 .0) (pre .0 .1) (pre .2 .1)) _ (c .before .before .loop-test .taken) (c .if1 .left) refl .0
+
+array-read-combine : tie.Need-array-read-combine Inv-loop μ-loop
+array-read-combine c = omega arith
+
+combine-requires-2 : tie.Need-combine-requires-2 Inv-loop μ-loop
+combine-requires-2 c κs = tt
+
+add-i-3 : tie.Need-add-i-3 Inv-loop μ-loop
+add-i-3 c = omega arith
+
+loop-less-3 : tie.Need-loop-less-3 Inv-loop μ-loop
+loop-less-3 c = omega arith
+
+loop-again-3 : tie.Need-loop-again-3 Inv-loop μ-loop
+loop-again-3 c =
     let loop = c .before .before .before .before .loop in (
       omega arith,
       omega arith,
       loop .inv .2,
-      λ t groups e p. evaluating-operator (loop .inv .3 t groups e p) _ (c .before .before .before .loop-test .taken) (c .before .if1 .left) (c .combine .ensures) .1,
+      λ t groups e p. evaluating-operator (loop .inv .3 t groups e p) _ (c .before .before .before .loop-test .taken) (c .before .if1 .left) (c .combine2 .ensures) .1,
     )
 
 returns : tie.Need-returns Inv-loop μ-loop
@@ -98,18 +128,24 @@ eval-spec =
     loop-holds
     mul-x
     shared-slice-read-x
+    element-copy-out-leaf
+    cast-leaf
+    shr-leaf
+    add-operator-at
+    operator-at-requires
     array-write-waiting
-    element-copy-out-value
-    cast-value
-    shr-value
     add-top
     add-i
     loop-less
     loop-again
-    sub-top
-    array-read-combine
     combine-requires
     add-i-2
     loop-less-2
     loop-again-2
+    sub-top
+    array-read-combine
+    combine-requires-2
+    add-i-3
+    loop-less-3
+    loop-again-3
     returns)
