@@ -9,7 +9,7 @@ outside-requires : tie.Need-outside-requires
 outside-requires c κs = search needs
 
 returns : tie.Need-returns
-returns c = rw (eq-eqb _ loadKind (c .before .before .before .if1 .taken)) cc
+returns c = rw (eq-eqb _ loadKind (c .before .before .before .if1 .taken), c .before .outside .ensures)
 
 returns-2 : tie.Need-returns-2
 returns-2 c = rw (ne-eqb _ loadKind (c .before .before .before .before .before .if1 .left))
