@@ -37,11 +37,6 @@ numbers-length (load target group ∷ is) = omega (arith, numbers-length is)
 numbers-length (add target s t ∷ is) = omega (arith, numbers-length is)
 numbers-length (cut target s t ∷ is) = omega (arith, numbers-length is)
 
-pub all-well-formed-append : (is js : List Instruction) → AllWellFormed is → AllWellFormed js → AllWellFormed (is ++ js)
-unfolding AllWellFormed
-all-well-formed-append [] js a b = b
-all-well-formed-append (i ∷ is) js a b = (a .0, all-well-formed-append is js (a .1) b)
-
 -- read again, they give the list
 pub instructions-numbers : (is : List Instruction) → instructions (numbersOf is) ≡ is
 unfolding instructions numbersOf

@@ -1,7 +1,7 @@
 // The player: from instructions and a patch to the lamps that are lit.
 //
 // A set of 512 lamps is 8 words of 64 lamps. Each group that the patch names has a place among at most 4,097 sets, and an index says
-// which; so neither clearing nor loading costs by how many group numbers there are, and each instruction is decoded once.
+// which: it alone, two bytes for each number, is as large as the range of groups. Each instruction is decoded once.
 ghost use mathlib.Core.Path.{_≡_};
 ghost use mathlib.Core.Bool.{false};
 ghost use mathlib.Core.List.{List, _++_};
@@ -15,7 +15,7 @@ ghost use Rattle.player.specs.Bytes.{bytes};
 ghost use Rattle.player.specs.Playing.{wrongLength, wrongInstruction, wrongCode, wrongPairCount, wrongPair, wrongPatch, playFault, Plays};
 ghost use Rattle.player.specs.InnerWords.{word, combined, HoldsSet, HoldsSets, Indexed, HoldsGroups, Placed, Executable};
 
-// 01's limits: the registers, the last group and the last lamp, the bytes written, the instructions and the pairs.
+// 01's limits: the registers, the last group (02's, request 4) and the last lamp, the bytes written, the instructions and the pairs.
 const REGISTERS: usize = 13;
 
 const GROUPS: usize = 60000;

@@ -25,7 +25,7 @@ use Rattle.sheet.specs.declared.Line.{Line}
 use Rattle.sheet.specs.declared.Line.the-variants.{Group, Lift, Mark, End, Bad}
 
 -- ---- the numbers 1 to a last one
-pub up-to-more : (few more n : ℕ) → few ≤ more → isUpTo few n ≡ true → isUpTo more n ≡ true
+up-to-more : (few more n : ℕ) → few ≤ more → isUpTo few n ≡ true → isUpTo more n ≡ true
 up-to-more few more n h e =
     let z = and-both (leb 1 n) (leb n few) e in
     rw (z .0, le-leb n more (omega (arith, leb-true n few (z .1))))

@@ -11,7 +11,7 @@ pub const ROWS: usize = 256;
 // The bit after the last that a row has.
 const NO_PLACE: u8 = tree::MOST_GROUPS as u8;
 
-// The bit of a row that says whether the group is in; for a group that is not among the eight, a bit that no row has.
+// The bit of a row that says whether the group is in; for a group that is not listed, a bit that no row has.
 fn place(groups: &[u16], g: u16) -> u8
     ensures { λ r. ⌜ IsPlace (now (groups .entry)) g r ⌝ }
 {

@@ -11,6 +11,7 @@ ghost use Rattle.tree.specs.InnerPart.{Part, Located, aboveOf};
 ghost use Rattle.tree.specs.InnerScan.{entryKind, operatorKind, onward, backward};
 ghost use Rattle.tree.specs.InnerWriting.{Wrote};
 
+// 01's numbers; the last group is 02's, request 4.
 pub const LEAST_GROUP: u16 = 1;
 
 pub const MOST_GROUP: u16 = 60000;
