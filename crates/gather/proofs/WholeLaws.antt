@@ -13,7 +13,7 @@ use borrow.Author.Tests.{lt-ltb, ltb-true, ltb-false, eqb-true, eqb-false, not-f
 use lib.ListN.{length, getD, take, drop, length-append, length-drop, take-append-drop}
 use lib.Seq.{sets, take-all, take-at, drop-at, length-take-le}
 use Rattle.tree.specs.Tree.{Tree, sign, union, difference, isGroup, postfix, size, mostNodes, Over, leaves, isIn, collect, groups, mostGroups}
-use Rattle.tree.specs.InnerGroups.{Distinct, leavesIn}
+use Rattle.tree.specs.InnerGroups.{Distinct, leavesIn, Collected}
 use Rattle.tree.specs.Parse.{treeOf}
 use Rattle.tree.specs.Writing.{over}
 use Rattle.tree.specs.InnerWriting.{Wrote}
@@ -36,7 +36,7 @@ use Rattle.columns.specs.declared.Choice.{Choice}
 use Rattle.columns.specs.declared.Choice.the-variants.{Never, Constant, Columns}
 use Rattle.gather.specs.Gathering.{Gathered}
 use Rattle.holding.specs.InnerHolding.{status}
-use Rattle.gather.specs.Inner.{MarkedParts, Collected, Ordered}
+use Rattle.gather.specs.Inner.{MarkedParts, Ordered}
 use Rattle.gather.specs.Answer.{badMark, groupsFault, treeFault, gatherFault, GatheredTo, GathersTree}
 use Rattle.gather.specs.InnerGathered.{treeBy, rearranged, gatheredBy, namedBy, Returned}
 use Rattle.holding.specs.declared.Status.{Status}

@@ -22,11 +22,6 @@ pub record MarkedParts (m : ℕ → Bool) (ms us : List ℕ) : Type 0 where
   pub other-groups : (g : ℕ) → isIn us g ≡ true → isGroup g ≡ true
   pub some-mark : 0 < length ms
 
--- the list's first `count` numbers are gs, or gs are more than eight
-pub record Collected (gs list : List ℕ) (count : ℕ) : Type 0 where
-  pub fits : count ≤ mostGroups → take count list ≡ gs
-  pub more : mostGroups < count → mostGroups < length gs
-
 -- the list of a choice's tree; nothing where there is none
 abbrev pub treeList : List Bool → List ℕ → List ℕ → Choice → List ℕ
 treeList t ms us c = postfixOptional (treeFor (rowsOf t) ms us c)

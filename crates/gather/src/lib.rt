@@ -5,14 +5,13 @@ ghost use mathlib.Core.Option.{some};
 ghost use Prim.Native.Nat.{ℕ, _≤_};
 ghost use lib.Dec.{eqb};
 ghost use lib.ListN.{length, take};
-ghost use Rattle.tree.specs.Tree.{Tree, postfix, isIn, collect, mostNodes, mostGroups};
+ghost use Rattle.tree.specs.Tree.{Tree, postfix, isIn, mostNodes};
 ghost use Rattle.tree.specs.Parse.{treeOf};
-ghost use Rattle.tree.specs.InnerGroups.{leavesIn};
 ghost use Rattle.tree.specs.InnerWriting.{Wrote};
 ghost use Rattle.table.specs.InnerTable.{rowsOf, Listed};
 ghost use Rattle.columns.specs.Inner.{Room, ReadyFor};
 ghost use Rattle.gather.specs.Gathering.{Gathered};
-ghost use Rattle.gather.specs.Inner.{Collected, treeList, Ordered};
+ghost use Rattle.gather.specs.Inner.{treeList, Ordered};
 ghost use Rattle.gather.specs.Answer.{badMark, gatherFault, GathersTree, Gathers};
 ghost use Rattle.gather.specs.InnerGathered.{treeBy, rearranged, gatheredBy, namedBy, Returns, GathersBy};
 use columns::Choice;
@@ -42,48 +41,7 @@ pub enum Gathering {
     Refused(u16),
 }
 
-// ---- the groups and the marks
-
-// More groups than there may be.
-const TOO_MANY: usize = MOST_GROUPS + 1;
-
-// Up to eight different groups; a count of `TOO_MANY` stands for more.
-pub struct Groups {
-    list: [u16; MOST_GROUPS],
-    count: usize,
-}
-
-// Adds the groups of a list, each where it is not there yet, in their order.
-fn add_groups(known: Groups, list: &[u16]) -> Groups
-    requires { ⌜ known .count ≤ mostGroups ⌝ }
-    ensures { λ r. ⌜ Collected (collect (take (known .count) (known .list)) (leavesIn (now (list .entry)))) (r .list) (r .count) ⌝ }
-{
-    let mut found = known.list;
-    let mut count = known.count;
-    let mut i = 0;
-    while i < list.len() {
-        let x = list[i];
-        if x < tree::UNION {
-            let old = tree::is_in(&found[..count], x);
-            if old {
-                i += 1;
-            } else {
-                if count == MOST_GROUPS {
-                    return Groups {
-                        list: found,
-                        count: TOO_MANY,
-                    };
-                }
-                found[count] = x;
-                count += 1;
-                i += 1;
-            }
-        } else {
-            i += 1;
-        }
-    }
-    Groups { list: found, count }
-}
+// ---- the marks and the first fault
 
 // Whether there is no mark, a mark twice, or one that is not among the groups.
 fn bad_marks(groups: &[u16], marks: &[u16]) -> bool
@@ -115,11 +73,7 @@ fn fault_of(list: &[u16], marks: &[u16], room: usize) -> u16
     }
     let good = tree::is_tree(list);
     if good {
-        let nothing = Groups {
-            list: [0; MOST_GROUPS],
-            count: 0,
-        };
-        let all = add_groups(nothing, list);
+        let all = tree::groups_of(list);
         let count = all.count;
         if MOST_GROUPS < count {
             return TOO_MANY_GROUPS;
@@ -206,12 +160,8 @@ fn rearrange(list: &[u16], marks: &[u16], out: &mut [u16]) -> Gathering
     ensures { λ r. ⌜ ((t : Tree) → treeOf (now (list .entry)) ≡ some t → GathersTree t (now (marks .entry)) (now (out .entry)) (now (out .exit)) r) ⌝ }
     ensures by { λ r. ⌜ Returns (now (list .entry)) (now (marks .entry)) (λ t. rearranged t (now (marks .entry))) (now (out .entry)) (now (out .exit)) r ⌝ }
 {
-    let nothing = Groups {
-        list: [0; MOST_GROUPS],
-        count: 0,
-    };
-    let first = add_groups(nothing, marks);
-    let all = add_groups(first, list);
+    let first = tree::groups_of(marks);
+    let all = tree::add_groups(first, list);
     let count = all.count;
     let found = all.list;
     gather_ordered(list, &found[..count], marks.len(), out)

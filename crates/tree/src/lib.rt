@@ -1,15 +1,16 @@
-// Postfix lists of trees: is a list a tree, where a part begins, and what is above it.
+// Postfix lists of trees: is a list a tree, which groups it has, where a part begins, and what is above it.
 ghost use mathlib.Core.Path.{_≡_};
 ghost use mathlib.Core.List.{List, [], _∷_, reverse};
 ghost use Prim.Native.Nat.{ℕ, _+_, _≤_, _<_};
 ghost use lib.ListN.{length, take, drop};
-ghost use Rattle.tree.specs.Tree.{Tree, isGroup, isIn};
+ghost use Rattle.tree.specs.Tree.{Tree, isGroup, isIn, collect, mostGroups};
 ghost use Rattle.tree.specs.Context.{Frame};
 ghost use Rattle.tree.specs.Pass.{entryOf};
 ghost use Rattle.tree.specs.Parse.{treeOf, isSome};
 ghost use Rattle.tree.specs.InnerPart.{Part, Located, aboveOf};
 ghost use Rattle.tree.specs.InnerScan.{entryKind, operatorKind, onward, backward};
 ghost use Rattle.tree.specs.InnerWriting.{Wrote};
+ghost use Rattle.tree.specs.InnerGroups.{leavesIn, Collected};
 
 // 01's numbers; the last group is 02's, request 4.
 pub const LEAST_GROUP: u16 = 1;
@@ -24,6 +25,9 @@ pub const MOST_NODES: usize = 8191;
 
 // The different groups that a sheet's tree may have, and a tree to be gathered.
 pub const MOST_GROUPS: usize = 8;
+
+// More groups than there may be.
+pub const TOO_MANY: usize = MOST_GROUPS + 1;
 
 // Whether a number is a group.
 pub fn is_group(x: u16) -> bool
@@ -44,6 +48,55 @@ pub fn is_in(list: &[u16], x: u16) -> bool
         i += 1;
     }
     false
+}
+
+// Up to eight different groups; a count of `TOO_MANY` stands for more.
+pub struct Groups {
+    pub list: [u16; MOST_GROUPS],
+    pub count: usize,
+}
+
+// Adds the groups of a list, each where it is not there yet, in their order.
+pub fn add_groups(known: Groups, list: &[u16]) -> Groups
+    requires { ⌜ known .count ≤ mostGroups ⌝ }
+    ensures { λ r. ⌜ Collected (collect (take (known .count) (known .list)) (leavesIn (now (list .entry)))) (r .list) (r .count) ⌝ }
+{
+    let mut found = known.list;
+    let mut count = known.count;
+    let mut i = 0;
+    while i < list.len() {
+        let x = list[i];
+        if x < UNION {
+            let old = is_in(&found[..count], x);
+            if old {
+                i += 1;
+            } else {
+                if count == MOST_GROUPS {
+                    return Groups {
+                        list: found,
+                        count: TOO_MANY,
+                    };
+                }
+                found[count] = x;
+                count += 1;
+                i += 1;
+            }
+        } else {
+            i += 1;
+        }
+    }
+    Groups { list: found, count }
+}
+
+// The different groups of a list, in their order; a count of `TOO_MANY` stands for more than eight.
+pub fn groups_of(list: &[u16]) -> Groups
+    ensures { λ r. ⌜ Collected (collect [] (leavesIn (now (list .entry)))) (r .list) (r .count) ⌝ }
+{
+    let nothing = Groups {
+        list: [0; MOST_GROUPS],
+        count: 0,
+    };
+    add_groups(nothing, list)
 }
 
 // The kind of an entry: 0 a group, 1 an operator, 2 neither.

@@ -1,14 +1,15 @@
+-- `tree::add_groups` meets its contract: the groups found so far, with those of what is left of the list, are those of the whole list.
 use mathlib.Core.Path.{_≡_, refl, sym, _∙_}
 use Prim.Native.Nat.{_≤_, _-_}
 use native.Mathlib.Omega.{arith}
 use lib.ListN.{length, take, drop, length-set}
 use lib.Seq.{length-take-le}
 use Rattle.tree.specs.Tree.{collect}
 use Rattle.tree.specs.InnerGroups.{leavesIn}
-use Rattle.gather.proofs.LoopLaws.{collect-operator, collect-old, collect-written, collect-many, collected}
+use Rattle.tree.proofs.CollectLaws.{collect-operator, collect-old, collect-written, collect-many, collected}
 use borrow.Author.Needs.{needs}
-use Rattle.gather.proofs.add_groups.Statement.{statement}
-use Rattle.gather.proofs.add_groups.Tie as tie
+use Rattle.tree.proofs.add_groups.Statement.{statement}
+use Rattle.tree.proofs.add_groups.Tie as tie
 
 abbrev Inv-loop : tie.InvT-loop
 Inv-loop list found₀ count₀ i₀ found count i = (i ≤ length list) × (count ≤ 8) × (length found ≡ 8) × (collect (take count found) (leavesIn (drop i list)) ≡ collect (take count₀ found₀) (leavesIn list))
