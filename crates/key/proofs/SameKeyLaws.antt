@@ -1,12 +1,13 @@
 -- Keys that stay the same, byte for byte, when the rules of reading change: lifts, gathering and code do not depend on them.
 use mathlib.Core.Path.{_≡_, sym, ap, _∙_}
+use mathlib.Core.Bool.{true≢false}
 use mathlib.Core.Logic.{_⊎_, inl, inr}
 use mathlib.Core.List.{List}
 use Prim.Native.Nat.{ℕ, _+_}
 use native.Mathlib.Omega.{arith}
 use Rattle.sheet.specs.Rules.{Rules, Stricter, baseRules, earlierRules, sheetRules}
 use Rattle.sheet.specs.Reading.{ReadingState, accepted, refused, readWith, reading}
-use Rattle.sheet.proofs.RulesLaws.{Outcomes, same, no-node, no-group, two-rules, stricter-accepts, fewer-nodes, more-groups}
+use Rattle.sheet.proofs.RulesLaws.{Outcomes, same, no-node, no-group, no-task, two-rules, stricter-accepts, fewer-nodes, more-groups}
 use Rattle.key.specs.InnerKeyOf.{keyBy, keyWith, keyOf}
 
 -- a sheet that rules accept has the same key by looser ones
@@ -25,6 +26,7 @@ keeps-unless-2 s = go (two-rules earlierRules sheetRules more-groups s)
     go (same e) = inl (ap keyBy (sym e))
     go (no-node l e) = absurd (omega (arith, l))
     go (no-group l line e) = inr (line, e)
+    go (no-task a b line e) = absurd (true≢false a)
 
 -- Request 1: "A sheet within the new limit gets the key it had": one that the rules with that limit accept has, to this day, the key
 -- that 01's gave it.
@@ -39,3 +41,4 @@ keeps-unless-5 s = go (two-rules earlierRules baseRules fewer-nodes s)
     go (same e) = inl (ap keyBy e)
     go (no-node l e) = inr e
     go (no-group l line e) = absurd (omega (arith, l))
+    go (no-task a b line e) = absurd (true≢false a)

@@ -15,9 +15,6 @@ ghost use Rattle.key.specs.Inner.{instructionBytes, MarkedTree, Finishes
 // As many bytes as every key fits in.
 pub const KEY_BYTES: usize = 274691;
 
-// As many bytes of a sheet as are enough to refuse it or to read it whole: one more than it may have.
-pub const ENOUGH_BYTES: usize = sheet::MOST_BYTES + 1;
-
 // Writes the code of a tree.
 fn put_tree_code(tree: &[u16], out: &mut [u8], at: usize) -> usize
     requires { ⌜ ((u : Tree) × IsList (now tree) u) × (at + instructionBytes * mostNodes ≤ length (now out)) ⌝ }

@@ -1,6 +1,6 @@
 -- What reading accepts: one tree within the limits, marks that are its groups, lifts that stand line by line. The proof
 -- follows the lines with a sound state and the lifts read so far; each line takes a byte at least.
-use mathlib.Core.Path.{_≡_, refl, sym, ap, _∙_}
+use mathlib.Core.Path.{_≡_, refl, sym, ap, ap₂, _∙_}
 use mathlib.Core.Bool.{Bool, true, false, cond}
 use mathlib.Core.List.{List, [], _∷_, _++_}
 use mathlib.Core.Option.{some}
@@ -20,9 +20,10 @@ use Rattle.text.specs.Parts.{Parts, last, part, split}
 use Rattle.text.specs.Line.{lineFeed}
 use Rattle.sheet.specs.Form.{lineOf}
 use Rattle.sheet.specs.InnerLines.{lineAt, LiftRange, LiftsTo}
-use Rattle.sheet.specs.Rules.{Rules, sheetRules}
+use Rattle.sheet.specs.Rules.{Rules, sheetRules, candidateRules}
 use Rattle.sheet.specs.Reading.{mostBytes, LiftLine, ReadingState, ended, trees, faultOf, entered, stateAfter, nothingRead, ReadingOutcome, accepted, refused, readLines, readWith, reading, sheetOf}
 use Rattle.sheet.specs.InnerHolding.{InRange, Sound}
+use Rattle.sheet.specs.InnerDrawing.{drawingOf}
 use Rattle.sheet.specs.declared.Line.{Line}
 use Rattle.sheet.specs.declared.Line.the-variants.{Group, Operator, Lift, Mark, End, Bad}
 use Rattle.sheet.proofs.EntriesLaws.{one-tree}
@@ -37,6 +38,7 @@ pub record Accepted (rules : Rules) (sheet : List ℕ) (st : ReadingState) : Typ
   pub is : treeOf (st .entries) ≡ some tree
   pub list : st .entries ≡ postfix tree
   pub nodes : size tree ≤ mostNodes
+  pub known : st .groups ≡ groups tree
   pub different : length (groups tree) ≤ mostGroups
   pub once : Distinct (st .marks)
   pub marked : (g : ℕ) → isIn (st .marks) g ≡ true → isIn (leaves tree) g ≡ true
@@ -104,6 +106,7 @@ accepted-of rules s st at m S p e =
       is = ap treeOf l ∙ tree-of-postfix t n;
       list = l;
       nodes = n;
+      known = k;
       different = rw k at (S .different);
       once = S .once;
       marked = λ g i. sym (groups-leaves t g) ∙ ap (λ (xs : List ℕ). isIn xs g) (sym k) ∙ S .marked g i;
@@ -158,9 +161,12 @@ module _ (rules : Rules) (s : List ℕ) (m : rules .nodes ≤ mostNodes) (g : ru
       go true e = no-outcome e
       go false e = accepted-lines (length s) nothingRead 0 0 (omega arith) (sound-nothing-read rules) start e
 
--- what an accepted sheet has
+-- what an accepted sheet has, and an accepted drawing
 pub accepted-sheet : (s : List ℕ) (st : ReadingState) → reading s ≡ accepted st → Accepted sheetRules s st
 accepted-sheet s st e = accepted-within sheetRules s (omega arith) (omega arith) st e
+
+pub accepted-drawing : (s : List ℕ) (st : ReadingState) → readWith candidateRules s ≡ accepted st → Accepted candidateRules s st
+accepted-drawing s st e = accepted-within candidateRules s (omega arith) (omega arith) st e
 
 -- it is within the limit of bytes
 pub accepted-short : (s : List ℕ) (st : ReadingState) → reading s ≡ accepted st → length s ≤ mostBytes
@@ -199,22 +205,40 @@ refused-number rules s number line e z = go (ltb mostBytes (length s)) e
     go true e = let q : number ≡ 1 = cc in omega arith
     go false e = refused-lines rules (split lineFeed s) nothingRead 0 0 number line e z
 
--- what `read`'s number tells: 0 for an accepted sheet, else the refusal
+-- an answer's number that is a refusal's number and 0 for an accepted file tells which it is
+module _ (rules : Rules) (s : List ℕ) (number line : ReadingOutcome → ℕ) (numbered : (n l : ℕ) → number (refused n l) ≡ n) where
+  told-accepted : number (readWith rules s) ≡ 0 → (st : ReadingState) × (readWith rules s ≡ accepted st)
+  told-accepted e = go (readWith rules s) refl e
+    where
+      go : (o : ReadingOutcome) → readWith rules s ≡ o → number o ≡ 0 → (st : ReadingState) × (readWith rules s ≡ accepted st)
+      go (accepted st) q e = (st, q)
+      go (refused n l) q e = absurd (refused-number rules s n l q (sym (numbered n l) ∙ e))
+
+  told-refused : ((st : ReadingState) → number (accepted st) ≡ 0) → ((n l : ℕ) → line (refused n l) ≡ l) → (number (readWith rules s) ≡ 0 → ⊥)
+      → readWith rules s ≡ refused (number (readWith rules s)) (line (readWith rules s))
+  told-refused none lined n = go (readWith rules s) n
+    where
+      go : (o : ReadingOutcome) → (number o ≡ 0 → ⊥) → o ≡ refused (number o) (line o)
+      go (accepted st) n = absurd (n (none st))
+      go (refused k l) n = sym (ap₂ refused (numbered k l) (lined k l))
+
+-- the number of `read`, and that of `read_drawing`
 pub number-accepted : (s : List ℕ) → sheetOf (reading s) .number ≡ 0 → (st : ReadingState) × (reading s ≡ accepted st)
 unfolding sheetOf
-number-accepted s e = go (reading s) refl e
-  where
-    go : (o : ReadingOutcome) → reading s ≡ o → sheetOf o .number ≡ 0 → (st : ReadingState) × (reading s ≡ accepted st)
-    go (accepted st) q e = (st, q)
-    go (refused number line) q e = absurd (refused-number sheetRules s number line q e)
+number-accepted s = told-accepted sheetRules s (λ o. sheetOf o .number) (λ o. sheetOf o .line) (λ n l. refl)
 
 pub number-refused : (s : List ℕ) → (sheetOf (reading s) .number ≡ 0 → ⊥) → reading s ≡ refused (sheetOf (reading s) .number) (sheetOf (reading s) .line)
 unfolding sheetOf
-number-refused s n = go (reading s) refl n
-  where
-    go : (o : ReadingOutcome) → reading s ≡ o → (sheetOf o .number ≡ 0 → ⊥) → reading s ≡ refused (sheetOf o .number) (sheetOf o .line)
-    go (accepted st) q n = absurd (n refl)
-    go (refused number line) q n = q
+number-refused s = told-refused sheetRules s (λ o. sheetOf o .number) (λ o. sheetOf o .line) (λ n l. refl) (λ st. refl) (λ n l. refl)
+
+pub drawing-accepted : (s : List ℕ) → drawingOf (readWith candidateRules s) .number ≡ 0 → (st : ReadingState) × (readWith candidateRules s ≡ accepted st)
+unfolding drawingOf
+drawing-accepted s = told-accepted candidateRules s (λ o. drawingOf o .number) (λ o. drawingOf o .line) (λ n l. refl)
+
+pub drawing-refused : (s : List ℕ) → (drawingOf (readWith candidateRules s) .number ≡ 0 → ⊥)
+    → readWith candidateRules s ≡ refused (drawingOf (readWith candidateRules s) .number) (drawingOf (readWith candidateRules s) .line)
+unfolding drawingOf
+drawing-refused s = told-refused candidateRules s (λ o. drawingOf o .number) (λ o. drawingOf o .line) (λ n l. refl) (λ st. refl) (λ n l. refl)
 
 -- ---- the arrays of an accepted sheet's answer hold its tree's entries and its marks
 pub answered-tree : (st : ReadingState) → take (sheetOf (accepted st) .nodes) (sheetOf (accepted st) .tree) ≡ st .entries
@@ -232,3 +256,12 @@ answered-long st = (
   omega (arith, length-append (st .entries) (drop (length (st .entries)) (replicate (sheetRules .nodes) 0))),
   omega (arith, length-append (st .marks) (drop (length (st .marks)) (replicate mostGroups 0))),
 )
+
+-- the same of a drawing's answer
+pub drawn-tree : (st : ReadingState) → take (drawingOf (accepted st) .nodes) (drawingOf (accepted st) .tree) ≡ st .entries
+unfolding drawingOf
+drawn-tree st = take-over (st .entries) (replicate mostNodes 0) (length (st .entries)) refl
+
+pub drawn-long : (st : ReadingState) → drawingOf (accepted st) .nodes ≤ length (drawingOf (accepted st) .tree)
+unfolding drawingOf
+drawn-long st = omega (arith, length-append (st .entries) (drop (length (st .entries)) (replicate mostNodes 0)))

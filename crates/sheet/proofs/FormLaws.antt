@@ -19,7 +19,7 @@ use Rattle.text.specs.Line.{tab}
 use Rattle.text.proofs.DecimalLaws.{and-both, digits-decimal, digits-free}
 use Rattle.text.proofs.PartsLaws.{split-last, split-all, split-first, join-split}
 use Rattle.sheet.specs.Form.{letterG, letterK, letterL, letterU, letterD, letterE, mostPosition, isPosition, mostLevels, isLevels, letterOf, ranged, bare, oneNumber, twoNumbers, formOf, lineOf}
-use Rattle.sheet.specs.Rules.{Rules, withNodes, sheetRules}
+use Rattle.sheet.specs.Rules.{Rules, sheetRules}
 use Rattle.sheet.specs.InnerHolding.{InRange}
 use Rattle.sheet.specs.declared.Line.{Line}
 use Rattle.sheet.specs.declared.Line.the-variants.{Group, Lift, Mark, End, Bad}
@@ -258,10 +258,10 @@ module _ (few more : Rules) (less : few .lastGroup ≤ more .lastGroup) where
   unfolding lineOf
   forms l = forms-fields (split tab l)
 
--- a line's form does not depend on how many nodes there may be
-pub line-nodes : (rules : Rules) (n : ℕ) (l : List ℕ) → lineOf (withNodes n rules) l ≡ lineOf rules l
-line-nodes rules n l = go (forms (withNodes n rules) rules (omega arith) l)
+-- a line's form depends on the last group only
+pub forms-alike : (r s : Rules) → r .lastGroup ≡ s .lastGroup → (l : List ℕ) → lineOf r l ≡ lineOf s l
+forms-alike r s e l = go (forms r s (omega arith) l)
   where
-    go : Forms (withNodes n rules) rules (omega arith) (lineOf (withNodes n rules) l) (lineOf rules l) → lineOf (withNodes n rules) l ≡ lineOf rules l
-    go (inl e) = e
-    go (inr e) = absurd (omega (arith, e .0))
+    go : Forms r s (omega arith) (lineOf r l) (lineOf s l) → lineOf r l ≡ lineOf s l
+    go (inl q) = q
+    go (inr q) = absurd (omega (arith, q .0))

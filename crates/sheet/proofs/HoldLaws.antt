@@ -1,6 +1,6 @@
 -- The code's numbers and arrays follow the state: a line's fault in the code's numbers, and what each kind of line leaves.
 use mathlib.Core.Path.{_≡_, refl, sym, _∙_}
-use mathlib.Core.Bool.{true, false, not, cond, _&&_}
+use mathlib.Core.Bool.{Bool, true, false, not, cond, _&&_}
 use mathlib.Core.List.{List, [], _∷_, _++_}
 use Prim.Native.Nat.{ℕ, _+_, _-_, _≤_, _<_}
 use native.Mathlib.Omega.{arith}
@@ -12,13 +12,26 @@ use Rattle.tree.specs.InnerWriting.{Wrote}
 use Rattle.tree.proofs.GroupLaws.{distinct-most}
 use Rattle.tree.proofs.WritingLaws.{wrote-nothing, wrote-one, wrote-then, wrote-as, wrote-over, wrote-take}
 use Rattle.sheet.specs.Rules.{Rules}
-use Rattle.sheet.specs.Reading.{LiftLine, ReadingState, ended, trees, firstFault, orderFault, faultOf, entered, stateAfter, nothingRead, accepted}
+use Rattle.sheet.specs.Reading.{LiftLine, ReadingState, ended, trees, firstFault, placeFault, orderFault, kindFault, faultOf, entered, stateAfter, nothingRead, accepted}
 use Rattle.sheet.specs.InnerHolding.{InRange, Sound, Holds, AfterLine, Gives}
 use Rattle.sheet.specs.declared.Line.{Line}
 use Rattle.sheet.specs.declared.Line.the-variants.{Group, Operator, Lift, Mark, End, Bad}
 use Rattle.sheet.specs.declared.Progress.{Progress}
 use Rattle.sheet.proofs.EntriesLaws.{more-group, more-operator}
-use Rattle.sheet.proofs.SoundLaws.{none-of, first-some, first-second, sound-next, sound-mark, sound-lift, sound-end, sound-nothing-read}
+use Rattle.sheet.proofs.SoundLaws.{none-of, first-none, first-some, first-second, sound-next, sound-mark, sound-lift, sound-end, sound-nothing-read}
+
+-- where tasks may stand, no line has that fault; and a task without it is in such a file
+pub place-none : (l : Line) → 0 ≡ placeFault true l
+place-none (Lift q n) = refl
+place-none (Mark g) = refl
+place-none (Group g) = refl
+place-none (Operator x) = refl
+place-none End = refl
+place-none Bad = refl
+
+pub tasks-may : (tasks : Bool) → _≡_ {A = ℕ} (cond tasks 0 3) 0 → tasks ≡ true
+tasks-may true e = refl
+tasks-may false e = absurd (omega arith)
 
 -- ---- the first of two faults, where the code has the first as f
 pub order-first : (f F rest : ℕ) → f ≡ F → (f ≡ 0 → ⊥) → firstFault F rest ≡ f
@@ -71,14 +84,20 @@ module _ {rules : Rules} {st : ReadingState} {p : Progress} {tree groups marks :
   unfolding faultOf
   fault-operator x = rw (h .phase, h .waits, tree-long, nodes-is)
 
-  pub fault-lift : (q n : ℕ) → faultOf rules st (Lift q n) ≡ firstFault (orderFault (p .phase) (p .waiting) 1) 0
+  pub fault-lift : rules .tasks ≡ true → (q n : ℕ) → faultOf rules st (Lift q n) ≡ firstFault (orderFault (p .phase) (p .waiting) 1) 0
   unfolding faultOf
-  fault-lift q n = rw (h .phase, h .waits)
+  fault-lift a q n = rw (a, h .phase, h .waits)
 
-  pub fault-mark : (g : ℕ) → faultOf rules st (Mark g)
-      ≡ firstFault (orderFault (p .phase) (p .waiting) 2) (cond (isIn (take (p .different) groups) g) (cond (isIn (take (p .marked) marks) g) 9 0) 8)
+  -- of a mark, the faults after that of a file without tasks
+  abbrev pub laterMark : ℕ → ℕ
+  laterMark g = firstFault (orderFault (p .phase) (p .waiting) 2) (cond (isIn (take (p .different) groups) g) (cond (isIn (take (p .marked) marks) g) 9 0) 8)
+
+  later-mark : (g : ℕ) → firstFault (orderFault (st .phase) (length (trees (st .entries))) 2) (kindFault rules st (Mark g)) ≡ laterMark g
+  later-mark g = rw (h .phase, h .waits, known-take, marked-take)
+
+  pub fault-mark : rules .tasks ≡ true → (g : ℕ) → faultOf rules st (Mark g) ≡ laterMark g
   unfolding faultOf
-  fault-mark g = rw (h .phase, h .waits, known-take, marked-take)
+  fault-mark a g = rw a (later-mark g)
 
   pub fault-end : faultOf rules st End ≡ firstFault (orderFault (p .phase) (p .waiting) 3) 0
   unfolding faultOf
@@ -87,6 +106,16 @@ module _ {rules : Rules} {st : ReadingState} {p : Progress} {tree groups marks :
   pub fault-bad : faultOf rules st Bad ≡ 2
   unfolding faultOf
   fault-bad = refl
+
+  -- a task in a file without tasks
+  pub fault-place : (l : Line) → (placeFault (rules .tasks) l ≡ 0 → ⊥) → faultOf rules st l ≡ placeFault (rules .tasks) l
+  unfolding faultOf
+  fault-place (Lift q n) e = first-some _ _ e
+  fault-place (Mark g) e = first-some _ _ e
+  fault-place (Group g) e = absurd (e refl)
+  fault-place (Operator x) e = absurd (e refl)
+  fault-place End e = absurd (e refl)
+  fault-place Bad e = absurd (e refl)
 
   -- ---- a line with a fault
   pub stepped-faulty : (l : Line) (after : ℕ) (r : Progress) (f : ℕ) (es gs ms : List ℕ) → (r .fault ≡ f) × (r .line ≡ p .line + 1) → faultOf rules st l ≡ f → (f ≡ 0 → ⊥)
@@ -189,9 +218,9 @@ module _ {rules : Rules} {st : ReadingState} {p : Progress} {tree groups marks :
       (holds-over 2 _ _ _ _ _ (sound-mark rules st (h .sound) g after (z .0) (z .1)) (wrote-then (h .marked) (wrote-one marks (p .marked) g)) (h .lifts) (omega (arith, h .few)))
 
   -- there is room for a mark without fault
-  pub mark-room : (g : ℕ) → faultOf rules st (Mark g) ≡ 0 → p .marked < length marks
+  pub mark-room : (g : ℕ) → laterMark g ≡ 0 → p .marked < length marks
   mark-room g e =
-      let z = none-of rules st (Mark g) e in
+      let z = first-none (orderFault (st .phase) (length (trees (st .entries))) 2) (kindFault rules st (Mark g)) (later-mark g ∙ e) in
       omega (arith, marks-few (sound-mark rules st (h .sound) g 0 (z .0) (z .1)), length-append (st .marks) (g ∷ []), marked-is, marks-long)
 
   pub stepped-end : (after : ℕ) → faultOf rules st End ≡ 0

@@ -3,9 +3,10 @@ mod Auto
 mod EntriesLaws
 pub mod FormLaws
 pub mod LineAtLaws
-mod SoundLaws
+pub mod SoundLaws
 mod HoldLaws
 mod LoopLaws
 pub mod AcceptedLaws
 pub mod RulesLaws
 pub mod LiftLineLaws
+pub mod TypedLaws

@@ -16,12 +16,12 @@ use Rattle.text.specs.Line.{lineFeed}
 use Rattle.text.proofs.PartsLaws.{split-all, split-first, ahead-most}
 use Rattle.sheet.specs.Form.{lineOf}
 use Rattle.sheet.specs.InnerLines.{firstLine, lineAt}
-use Rattle.sheet.specs.Rules.{Rules, withNodes}
+use Rattle.sheet.specs.Rules.{Rules}
 use Rattle.sheet.specs.Reading.{ReadingState, ended, faultOf, stateAfter, accepted, refused, readLines}
 use Rattle.sheet.specs.InnerHolding.{InRange}
 use Rattle.sheet.specs.declared.Line.the-variants.{Bad}
 use Rattle.sheet.specs.declared.LineAt.{LineAt}
-use Rattle.sheet.proofs.FormLaws.{line-range, line-nodes}
+use Rattle.sheet.proofs.FormLaws.{line-range, forms-alike}
 
 pub line-past : (rules : Rules) (s : List ℕ) (at : ℕ) → length s ≤ at → lineAt rules s at ≡ record { line = Bad; next = at }
 unfolding lineAt split
@@ -46,14 +46,14 @@ pub line-at-range : (rules : Rules) → rules .lastGroup ≤ mostGroup → (s : 
 unfolding lineAt
 line-at-range rules m s at = first-range rules m at (split lineFeed (drop at s))
 
-first-nodes : (rules : Rules) (n at : ℕ) (ps : Parts) → firstLine rules at ps ≡ firstLine (withNodes n rules) at ps
-first-nodes rules n at (last l) = refl
-first-nodes rules n at (part l ls) = rw (line-nodes rules n l)
+first-alike : (r s : Rules) → r .lastGroup ≡ s .lastGroup → (at : ℕ) (ps : Parts) → firstLine r at ps ≡ firstLine s at ps
+first-alike r s e at (last l) = refl
+first-alike r s e at (part l ls) = rw (forms-alike r s e l)
 
--- and do not depend on how many nodes there may be
-pub line-at-nodes : (rules : Rules) (n : ℕ) (s : List ℕ) (at : ℕ) → lineAt rules s at ≡ lineAt (withNodes n rules) s at
+-- and depend on the last group only
+pub line-at-alike : (r s : Rules) → r .lastGroup ≡ s .lastGroup → (bytes : List ℕ) (at : ℕ) → lineAt r bytes at ≡ lineAt s bytes at
 unfolding lineAt
-line-at-nodes rules n s at = first-nodes rules n at (split lineFeed (drop at s))
+line-at-alike r s e bytes at = first-alike r s e at (split lineFeed (drop at bytes))
 
 -- one line more: it takes a byte at least, and reading goes on after it or stops with its fault
 pub record OneLine (rules : Rules) (s : List ℕ) (at : ℕ) (here : LineAt) : Type 0 where

@@ -8,10 +8,11 @@ use lib.ListN.{length, replicate, drop}
 use Rattle.text.specs.Parts.{split}
 use Rattle.text.specs.Line.{lineFeed}
 use Rattle.sheet.specs.InnerLines.{lineAt}
-use Rattle.sheet.specs.Rules.{Rules, sheetRules}
+use Rattle.sheet.specs.Rules.{Rules, sheetRules, candidateRules}
 use Rattle.sheet.specs.Reading.{mostBytes, ReadingState, ended, faultOf, stateAfter, nothingRead, ReadingOutcome, accepted, refused, readLines, readWith, sheetOf}
 use Rattle.tree.specs.Tree.{mostGroups}
 use Rattle.sheet.specs.InnerHolding.{Holds, AfterLine, Gives, acceptedSheet}
+use Rattle.sheet.specs.InnerDrawing.{drawingOf, acceptedDrawing}
 use Rattle.sheet.specs.declared.Progress.{Progress}
 use Rattle.sheet.proofs.LineAtLaws.{one-line, lines-end}
 use Rattle.sheet.proofs.HoldLaws.{holds-nothing-read}
@@ -55,12 +56,17 @@ module _ {rules : Rules} {s : List ℕ} {p : Progress} {tree groups marks : List
     running-open n = R .left ∙ lines-end rules (R .st) (p .line) at s h ∙ rw (ne-eqb (R .st .phase) ended (λ e. n (R .held .phase ∙ e)))
 
 -- ---- the outcome as an answer
-pub gives-refused : (rules : Rules) (o : ReadingOutcome) (r : Progress) (tree marks : List ℕ) → Gives rules o r tree marks → (r .fault ≡ 0 → ⊥) → sheetOf (refused (r .fault) (r .line)) ≡ sheetOf o
+pub gives-refused : (rules : Rules) (o : ReadingOutcome) (r : Progress) (tree marks : List ℕ) → Gives rules o r tree marks → (r .fault ≡ 0 → ⊥) → refused (r .fault) (r .line) ≡ o
 gives-refused rules (accepted st) r tree marks g n = absurd (n (g .fault))
-gives-refused rules (refused number line) r tree marks g n = ap sheetOf (ap₂ refused (g .fault) (g .line-is))
+gives-refused rules (refused number line) r tree marks g n = ap₂ refused (g .fault) (g .line-is)
 
 pub gives-accepted : (o : ReadingOutcome) (r : Progress) (tree marks : List ℕ) → Gives sheetRules o r tree marks → r .fault ≡ 0
     → acceptedSheet r tree marks ≡ sheetOf o
 unfolding sheetOf
 gives-accepted (accepted st) r tree marks g e = rw (g .entries, g .nodes, g .marks-are, g .marked, g .start, g .lifts)
 gives-accepted (refused number line) r tree marks g e = absurd (g .some (sym (g .fault) ∙ e))
+
+pub gives-drawing : (o : ReadingOutcome) (r : Progress) (tree marks : List ℕ) → Gives candidateRules o r tree marks → r .fault ≡ 0 → acceptedDrawing (r .nodes) tree ≡ drawingOf o
+unfolding drawingOf
+gives-drawing (accepted st) r tree marks g e = rw (g .entries, g .nodes)
+gives-drawing (refused number line) r tree marks g e = absurd (g .some (sym (g .fault) ∙ e))

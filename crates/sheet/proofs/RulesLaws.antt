@@ -1,9 +1,9 @@
 -- One file read by two rules of which the second allow more: they come to the same, unless the stricter ones refuse what only the
 -- looser ones allow (`two-rules`). So what stricter rules accept, looser ones accept with the same state.
 use mathlib.Core.Path.{_≡_, refl, sym, _∙_}
-use mathlib.Core.Bool.{Bool, true, false, cond}
+use mathlib.Core.Bool.{Bool, true, false, cond, true≢false}
 use mathlib.Core.List.{List, [], _∷_}
-use mathlib.Core.Logic.{_⊎_, inl, inr}
+use mathlib.Core.Logic.{inl, inr}
 use Prim.Native.Nat.{ℕ, _+_, _≤_, _<_}
 use native.Mathlib.Omega.{arith}
 use borrow.Author.Tests.{eqb-true, leb-true, leb-false}
@@ -41,16 +41,20 @@ passed-next rules st lines (Mark g) after e P = record { within = P .within; cou
 passed-next rules st lines End after e P = record { within = P .within; counted = λ z. absurd (omega arith) }
 
 -- ---- rules and looser ones
--- what they come to: the same, or the stricter ones refuse the node after their last (5), or a group after their last (2)
+-- what they come to: the same, or the stricter ones refuse the node after their last (5), a group after their last (2), or a lift or a
+-- mark (3)
 pub data Outcomes (few more : Rules) (o p : ReadingOutcome) : Type 0 where
   same : o ≡ p → Outcomes few more o p
   no-node : few .nodes < more .nodes → o ≡ refused 5 (few .nodes + 1) → Outcomes few more o p
   no-group : few .lastGroup < more .lastGroup → (line : ℕ) → o ≡ refused 2 line → Outcomes few more o p
+  no-task : few .tasks ≡ false → more .tasks ≡ true → (line : ℕ) → o ≡ refused 3 line → Outcomes few more o p
 
 module _ (few more : Rules) (h : Stricter few more) where
-  -- a line's fault by both: the same, or 5 by the stricter ones alone, of a line in its place when the tree is full
-  abbrev Faults : ReadingState → ℕ → ℕ → Type 0
-  Faults st f g = (f ≡ g) ⊎ ((f ≡ 5) × (orderFault (st .phase) (length (trees (st .entries))) 0 ≡ 0) × (few .nodes ≤ length (st .entries)) × (few .nodes < more .nodes))
+  -- a line's fault by both: the same; or by the stricter ones alone 5, of a line in its place when the tree is full, or 3, of a task
+  data Faults (st : ReadingState) (f g : ℕ) : Type 0 where
+    alike : f ≡ g → Faults st f g
+    full : f ≡ 5 → orderFault (st .phase) (length (trees (st .entries))) 0 ≡ 0 → few .nodes ≤ length (st .entries) → few .nodes < more .nodes → Faults st f g
+    task : f ≡ 3 → few .tasks ≡ false → more .tasks ≡ true → Faults st f g
 
   -- of a tree line; `early` says whether it gets 4
   tree-line : (st : ReadingState) (early : Bool) (rest : ℕ)
@@ -61,36 +65,47 @@ module _ (few more : Rules) (h : Stricter few more) where
       o : ℕ
       o = orderFault (st .phase) (length (trees (st .entries))) 0
 
-      go : (early b : Bool) → eqb o 0 ≡ b → (full : Bool) → isFull few st ≡ full → (full′ : Bool) → isFull more st ≡ full′
-          → Faults st (cond b (cond early 4 (cond full 5 rest)) o) (cond b (cond early 4 (cond full′ 5 rest)) o)
-      go early false p full q full′ r = inl refl
-      go true true p full q full′ r = inl refl
-      go false true p true q true r = inl refl
-      go false true p true q false r = let k = leb-true (few .nodes) (length (st .entries)) q in inr (refl, eqb-true o 0 p, k, omega (arith, leb-false, k))
+      go : (early b : Bool) → eqb o 0 ≡ b → (f : Bool) → isFull few st ≡ f → (f′ : Bool) → isFull more st ≡ f′
+          → Faults st (cond b (cond early 4 (cond f 5 rest)) o) (cond b (cond early 4 (cond f′ 5 rest)) o)
+      go early false p f q f′ r = alike refl
+      go true true p f q f′ r = alike refl
+      go false true p true q true r = alike refl
+      go false true p true q false r = let k = leb-true (few .nodes) (length (st .entries)) q in full refl (eqb-true o 0 p) k (omega (arith, leb-false, k))
       go false true p false q true r = absurd (omega (arith, leb-false, leb-true, h .nodes))
-      go false true p false q false r = inl refl
+      go false true p false q false r = alike refl
+
+  -- of a lift or a mark; `rest` is its fault where tasks may stand
+  task-line : (st : ReadingState) (rest : ℕ) → Faults st (firstFault (cond (few .tasks) 0 3) rest) (firstFault (cond (more .tasks) 0 3) rest)
+  task-line st rest = go (few .tasks) refl (more .tasks) refl
+    where
+      go : (a : Bool) → few .tasks ≡ a → (b : Bool) → more .tasks ≡ b → Faults st (firstFault (cond a 0 3) rest) (firstFault (cond b 0 3) rest)
+      go true p true q = alike refl
+      go true p false q = absurd (true≢false (sym (h .tasks p) ∙ q))
+      go false p true q = task refl p q
+      go false p false q = alike refl
 
   faults : (st : ReadingState) (l : Line) → Faults st (faultOf few st l) (faultOf more st l)
   unfolding faultOf
-  faults st Bad = inl refl
+  faults st Bad = alike refl
   faults st (Group g) = tree-line st false _
   faults st (Operator x) = tree-line st (ltb (length (trees (st .entries))) 2) 0
-  faults st (Lift p m) = inl refl
-  faults st (Mark g) = inl refl
-  faults st End = inl refl
+  faults st (Lift p m) = task-line st _
+  faults st (Mark g) = task-line st _
+  faults st End = alike refl
 
   -- a line with these faults, after which they come to o and p
   line-outcomes : (st : ReadingState) (lines f g : ℕ) (o p : ReadingOutcome) → Passed (few .nodes) st lines → Faults st f g → (f ≡ 0 → Outcomes few more o p)
       → Outcomes few more (cond (eqb f 0) o (refused f (lines + 1))) (cond (eqb g 0) p (refused g (lines + 1)))
-  line-outcomes st lines f g o p P (inl e) next = rw (← e) (go (eqb f 0) refl)
+  line-outcomes st lines f g o p P (alike e) next = rw (← e) (go (eqb f 0) refl)
     where
       go : (b : Bool) → eqb f 0 ≡ b → Outcomes few more (cond b o (refused f (lines + 1))) (cond b p (refused f (lines + 1)))
       go true q = next (eqb-true f 0 q)
       go false q = same refl
-  line-outcomes st lines f g o p P (inr e) next =
-      let k = order-none (st .phase) (length (trees (st .entries))) 0 (e .1) .0 in
-      let z : lines ≡ few .nodes = omega (arith, P .counted (omega (arith, k)), P .within, e .2) in
-      no-node (e .3) (rw (e .0, z))
+  line-outcomes st lines f g o p P (full e q l m) next =
+      let k = order-none (st .phase) (length (trees (st .entries))) 0 q .0 in
+      let z : lines ≡ few .nodes = omega (arith, P .counted (omega (arith, k)), P .within, l) in
+      no-node m (rw (e, z))
+  line-outcomes st lines f g o p P (task e a b) next = no-task a b (lines + 1) (rw e)
 
   abbrev LinesOutcomes : Parts → Type 0
   LinesOutcomes ps = (st : ReadingState) (lines at : ℕ) → Passed (few .nodes) st lines → Outcomes few more (readLines few st lines at ps) (readLines more st lines at ps)
@@ -122,10 +137,11 @@ module _ (few more : Rules) (h : Stricter few more) where
       go (same q) = sym q ∙ e
       go (no-node l q) = no-outcome (sym q ∙ e)
       go (no-group l line q) = no-outcome (sym q ∙ e)
+      go (no-task a b line q) = no-outcome (sym q ∙ e)
 
 -- ---- the rules from request to request: request 1 has fewer nodes than 01, request 4 more groups than were there until then
 pub fewer-nodes : Stricter earlierRules baseRules
-fewer-nodes = record { nodes = omega arith; lastGroup = omega arith }
+fewer-nodes = record { nodes = omega arith; lastGroup = omega arith; tasks = λ _. refl }
 
 pub more-groups : Stricter earlierRules sheetRules
-more-groups = record { nodes = omega arith; lastGroup = omega arith }
+more-groups = record { nodes = omega arith; lastGroup = omega arith; tasks = λ _. refl }

@@ -12,14 +12,14 @@ use Rattle.tree.specs.InnerGroups.{Distinct, leavesIn}
 use Rattle.tree.specs.Pass.{pass}
 use Rattle.tree.proofs.GroupLaws.{end-cases, is-in-new, collect-append, distinct-end, leaves-append, leaves-one, leaves-sign}
 use Rattle.sheet.specs.Rules.{Rules}
-use Rattle.sheet.specs.Reading.{LiftLine, ReadingState, place, ended, trees, firstFault, formFault, orderFault, isFull, kindFault, faultOf, entered, stateAfter, nothingRead}
+use Rattle.sheet.specs.Reading.{LiftLine, ReadingState, place, ended, trees, firstFault, formFault, placeFault, orderFault, isFull, kindFault, faultOf, entered, stateAfter, nothingRead}
 use Rattle.sheet.specs.InnerHolding.{InRange, Sound}
 use Rattle.sheet.specs.declared.Line.{Line}
 use Rattle.sheet.specs.declared.Line.the-variants.{Group, Operator, Lift, Mark, End, Bad}
 use Rattle.sheet.proofs.EntriesLaws.{More, more-group, more-operator}
 
 -- ---- the first of two faults
-first-none : (f g : ℕ) → firstFault f g ≡ 0 → (f ≡ 0) × (g ≡ 0)
+pub first-none : (f g : ℕ) → firstFault f g ≡ 0 → (f ≡ 0) × (g ≡ 0)
 first-none f g e = go (eqb f 0) refl e
   where
     go : (b : Bool) → eqb f 0 ≡ b → cond b g f ≡ 0 → (f ≡ 0) × (g ≡ 0)
@@ -53,7 +53,8 @@ pub none-of : (rules : Rules) (st : ReadingState) (l : Line) → faultOf rules s
 unfolding faultOf
 none-of rules st l e =
     let o = orderFault (st .phase) (length (trees (st .entries))) (place l) in
-    first-none o (kindFault rules st l) (first-none (formFault l) (firstFault o (kindFault rules st l)) e .1)
+    let f = firstFault o (kindFault rules st l) in
+    first-none o (kindFault rules st l) (first-none (placeFault (rules .tasks) l) f (first-none (formFault l) (firstFault (placeFault (rules .tasks) l) f) e .1) .1)
 
 pub bad-fault : (rules : Rules) (st : ReadingState) → faultOf rules st Bad ≡ 0 → ⊥
 unfolding faultOf

@@ -1,7 +1,7 @@
 -- How the code's numbers and arrays stand for what has been read (`ReadingState`), and what each inner function of reading promises
 -- of them.
 use mathlib.Core.Path.{_≡_}
-use mathlib.Core.Bool.{true}
+use mathlib.Core.Bool.{Bool, true}
 use mathlib.Core.List.{List, []}
 use mathlib.Core.Option.{some}
 use Prim.Native.Nat.{ℕ, _+_, _≤_}
@@ -67,6 +67,12 @@ pub record AfterLine (rules : Rules) (st : ReadingState) (l : Line) (after : ℕ
 abbrev pub Leads : Line → ℕ → Progress → List ℕ → List ℕ → List ℕ → Progress → List ℕ → List ℕ → List ℕ → Type 0
 Leads l after p tree groups marks r tree′ groups′ marks′ =
     (rules : Rules) (st : ReadingState) → InRange l → Holds rules st p tree groups marks → AfterLine rules st l after p r tree′ groups′ marks′
+
+-- the same, by rules with tasks or without
+abbrev pub LeadsIf : Bool → Line → ℕ → Progress → List ℕ → List ℕ → List ℕ → Progress → List ℕ → List ℕ → List ℕ → Type 0
+LeadsIf tasks l after p tree groups marks r tree′ groups′ marks′ =
+    (rules : Rules) (st : ReadingState) → rules .tasks ≡ tasks → InRange l → Holds rules st p tree groups marks
+    → AfterLine rules st l after p r tree′ groups′ marks′
 
 -- r and the arrays are those of an accepted sheet: no fault, the state's numbers, its entries and its marks, and 0 past their ends
 pub record GivesState (rules : Rules) (st : ReadingState) (r : Progress) (tree marks : List ℕ) : Type 0 where

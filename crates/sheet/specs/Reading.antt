@@ -70,6 +70,15 @@ formFault (Lift p n) = 0
 formFault (Mark g) = 0
 formFault End = 0
 
+-- request 5, where there may be no tasks: "a lift or a mark in it is out of its place"
+abbrev pub placeFault : Bool → Line → ℕ
+placeFault tasks (Lift p n) = cond tasks 0 3
+placeFault tasks (Mark g) = cond tasks 0 3
+placeFault tasks (Group g) = 0
+placeFault tasks (Operator x) = 0
+placeFault tasks End = 0
+placeFault tasks Bad = 0
+
 -- "3 a line of good form out of its place, or after `E`; 7 the first line after the tree lines (line 1 if there are none)
 -- when they don't make one tree"; `many` trees wait
 abbrev pub orderFault : ℕ → ℕ → ℕ → ℕ
@@ -91,7 +100,9 @@ kindFault rules st Bad = 0
 
 -- the first fault of a line by these rules; 0 is none
 unfoldable pub faultOf : Rules → ReadingState → Line → ℕ
-faultOf rules st l = firstFault (formFault l) (firstFault (orderFault (st .phase) (length (trees (st .entries))) (place l)) (kindFault rules st l))
+faultOf rules st l =
+    firstFault (formFault l) (firstFault (placeFault (rules .tasks) l)
+    (firstFault (orderFault (st .phase) (length (trees (st .entries))) (place l)) (kindFault rules st l)))
 
 -- One entry more of the tree; `after` is the byte after its line. So `start` is "the byte after the tree lines, also when there are
 -- no lifts".

@@ -1,5 +1,6 @@
 // Reads a sheet.
 ghost use mathlib.Core.Path.{_≡_};
+ghost use mathlib.Core.Bool.{true};
 ghost use mathlib.Core.List.{List, [], _∷_};
 ghost use mathlib.Core.Option.{Option};
 ghost use Prim.Native.Nat.{ℕ, _+_, _≤_, _<_};
@@ -9,14 +10,19 @@ ghost use Rattle.text.specs.Parts.{part, split};
 ghost use Rattle.text.specs.Line.{tab};
 ghost use Rattle.sheet.specs.Form.{bare, oneNumber, twoNumbers, formOf, lineOf};
 ghost use Rattle.sheet.specs.InnerLines.{lineAt};
-ghost use Rattle.sheet.specs.Rules.{withNodes, sheetRules};
-ghost use Rattle.sheet.specs.Reading.{mostBytes, orderFault, reading, refused, sheetOf};
+ghost use Rattle.sheet.specs.Rules.{withNodes, withTasks, sheetRules, candidateRules};
+ghost use Rattle.sheet.specs.Reading.{mostBytes, placeFault, orderFault, readWith, reading, refused, sheetOf};
 ghost use Rattle.tree.specs.Tree.{mostGroups};
-ghost use Rattle.sheet.specs.InnerHolding.{Holding, Leads, GivesReading, acceptedSheet};
+ghost use Rattle.sheet.specs.InnerHolding.{Holding, Leads, LeadsIf, GivesReading, acceptedSheet};
+ghost use Rattle.sheet.specs.InnerDrawing.{drawingOf, acceptedDrawing};
 use tree::MOST_GROUPS;
+use tree::MOST_NODES;
 
 // 01's limits; that of a sheet's nodes is 02's, request 1.
 pub const MOST_BYTES: usize = 60000;
+
+// As many bytes of a file as are enough to refuse it or to read it whole: one more than it may have.
+pub const ENOUGH_BYTES: usize = MOST_BYTES + 1;
 
 pub const MOST_SHEET_NODES: usize = 255;
 
@@ -205,6 +211,23 @@ fn faulty(p: Progress, fault: u8) -> Progress
     q
 }
 
+// The fault of a lift or a mark where there may be no tasks (3).
+fn place_fault(line: Line, tasks: bool) -> u8
+    ensures { λ r. ⌜ r ≡ placeFault tasks line ⌝ }
+{
+    if tasks {
+        return 0;
+    }
+    match line {
+        Line::Lift(_, _) => OUT_OF_PLACE,
+        Line::Mark(_) => OUT_OF_PLACE,
+        Line::Group(_) => 0,
+        Line::Operator(_) => 0,
+        Line::End => 0,
+        Line::Bad => 0,
+    }
+}
+
 // The fault of a line out of its place (3), or first after tree lines that make no tree (7).
 fn order_fault(phase: u8, waiting: usize, place: u8) -> u8
     ensures { λ r. ⌜ r ≡ orderFault phase waiting place ⌝ }
@@ -281,7 +304,7 @@ fn operator_step(p: Progress, x: u16, after: usize, tree: &mut [u16]) -> Progres
 // Reads a line with a lift.
 fn lift_step(p: Progress) -> Progress
     requires { ⌜ (p .line < mostBytes) × (p .lifts ≤ p .line) ⌝ }
-    ensures { λ r. ⌜ ((position levels after : ℕ) (es gs ms : List ℕ) → Leads (Line.Lift position levels) after p es gs ms r es gs ms) ⌝ }
+    ensures { λ r. ⌜ ((position levels after : ℕ) (es gs ms : List ℕ) → LeadsIf true (Line.Lift position levels) after p es gs ms r es gs ms) ⌝ }
 {
     let fault = order_fault(p.phase, p.waiting, LIFTS);
     if fault != 0 {
@@ -297,7 +320,7 @@ fn lift_step(p: Progress) -> Progress
 // Reads a line with a mark.
 fn mark_step(p: Progress, g: u16, groups: &[u16], marks: &mut [u16]) -> Progress
     requires { ⌜ (p .line < mostBytes) × ((es : List ℕ) × Holding p es (now groups) (now marks)) ⌝ }
-    ensures { λ r. ⌜ ((after : ℕ) (es : List ℕ) → Leads (Line.Mark g) after p es (now (groups .entry)) (now (marks .entry))
+    ensures { λ r. ⌜ ((after : ℕ) (es : List ℕ) → LeadsIf true (Line.Mark g) after p es (now (groups .entry)) (now (marks .entry))
         r es (now (groups .entry)) (now (marks .exit))) ⌝ }
 {
     let fault = order_fault(p.phase, p.waiting, MARKS);
@@ -343,11 +366,16 @@ fn step(
     tree: &mut [u16],
     groups: &mut [u16],
     marks: &mut [u16],
+    tasks: bool,
 ) -> Progress
     requires { ⌜ (p .line < mostBytes) × Holding p (now tree) (now groups) (now marks) ⌝ }
-    ensures { λ r. ⌜ Leads line after p (now (tree .entry)) (now (groups .entry)) (now (marks .entry))
+    ensures { λ r. ⌜ LeadsIf tasks line after p (now (tree .entry)) (now (groups .entry)) (now (marks .entry))
         r (now (tree .exit)) (now (groups .exit)) (now (marks .exit)) ⌝ }
 {
+    let fault = place_fault(line, tasks);
+    if fault != 0 {
+        return faulty(p, fault);
+    }
     match line {
         Line::Bad => faulty(p, NO_FORM),
         Line::Group(g) => group_step(p, g, after, tree, groups),
@@ -358,10 +386,11 @@ fn step(
     }
 }
 
-// Reads the lines of a sheet into `tree` and `marks`, which hold zeros. The tree may have as many nodes as `tree` has room.
-fn read_lines(sheet: &[u8], tree: &mut [u16], marks: &mut [u16]) -> Progress
+// Reads the lines of a file into `tree` and `marks`, which hold zeros. The tree may have as many nodes as `tree` has room; `tasks`
+// says whether lifts and marks may stand in the file.
+fn read_lines(sheet: &[u8], tasks: bool, tree: &mut [u16], marks: &mut [u16]) -> Progress
     requires { ⌜ (now tree ≡ replicate (length (now tree)) 0) × (now marks ≡ replicate mostGroups 0) ⌝ }
-    ensures { λ r. ⌜ GivesReading (withNodes (length (now (tree .entry))) sheetRules) (now (sheet .entry)) r (now (tree .exit)) (now (marks .exit)) ⌝ }
+    ensures { λ r. ⌜ GivesReading (withTasks tasks (withNodes (length (now (tree .entry))) sheetRules)) (now (sheet .entry)) r (now (tree .exit)) (now (marks .exit)) ⌝ }
 {
     let mut p = Progress {
         fault: 0,
@@ -384,7 +413,7 @@ fn read_lines(sheet: &[u8], tree: &mut [u16], marks: &mut [u16]) -> Progress
         let here = line_at(sheet, at);
         let line = here.line;
         at = here.next;
-        p = step(p, line, at, tree, &mut groups, marks);
+        p = step(p, line, at, tree, &mut groups, marks, tasks);
         if p.fault != 0 {
             return p;
         }
@@ -447,9 +476,55 @@ pub fn read(sheet: &[u8]) -> Sheet
 {
     let mut tree: [u16; MOST_SHEET_NODES] = [0; MOST_SHEET_NODES];
     let mut marks: [u16; MOST_GROUPS] = [0; MOST_GROUPS];
-    let p = read_lines(sheet, &mut tree, &mut marks);
+    let p = read_lines(sheet, true, &mut tree, &mut marks);
     if p.fault != 0 {
         return refusal(p.fault, p.line);
     }
     acceptance(p, tree, marks)
+}
+
+// What reading a candidate's file answers: the number and the line of the first fault, both 0 where it is accepted, and the entries of
+// the tree in it. Entries past its end are 0, and where the file is refused everything but number and line is 0.
+pub struct Drawing {
+    pub number: u8,
+    pub line: usize,
+    pub tree: [u16; MOST_NODES],
+    pub nodes: usize,
+}
+
+// The answer for a candidate's file that is refused.
+fn drawing_refusal(number: u8, line: usize) -> Drawing
+    ensures { λ r. ⌜ r ≡ drawingOf (refused number line) ⌝ }
+{
+    Drawing {
+        number: number,
+        line: line,
+        tree: [0; MOST_NODES],
+        nodes: 0,
+    }
+}
+
+// The answer for a candidate's file that is accepted.
+fn drawing_acceptance(nodes: usize, tree: [u16; MOST_NODES]) -> Drawing
+    ensures { λ r. ⌜ r ≡ acceptedDrawing nodes tree ⌝ }
+{
+    Drawing {
+        number: 0,
+        line: 0,
+        tree: tree,
+        nodes: nodes,
+    }
+}
+
+// Reads a candidate's file: the same reader, by other rules.
+pub fn read_drawing(file: &[u8]) -> Drawing
+    ensures { λ r. ⌜ r ≡ drawingOf (readWith candidateRules (now (file .entry))) ⌝ }
+{
+    let mut tree: [u16; MOST_NODES] = [0; MOST_NODES];
+    let mut marks: [u16; MOST_GROUPS] = [0; MOST_GROUPS];
+    let p = read_lines(file, false, &mut tree, &mut marks);
+    if p.fault != 0 {
+        return drawing_refusal(p.fault, p.line);
+    }
+    drawing_acceptance(p.nodes, tree)
 }

@@ -1,5 +1,5 @@
--- Lists of groups, as contracts of inner functions of the crates above speak of them: each once, those among a tree's entries, and a
--- list that holds up to eight.
+-- Lists of groups, as contracts of inner functions of this crate and of those above speak of them: each once, those among a tree's
+-- entries, and a list that holds up to eight.
 use mathlib.Core.Path.{_≡_}
 use mathlib.Core.Bool.{false, cond}
 use mathlib.Core.List.{List, [], _∷_}

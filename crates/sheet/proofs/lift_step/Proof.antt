@@ -13,7 +13,7 @@ faulty-requires : tie.Need-faulty-requires
 faulty-requires c κs = search needs
 
 returns : tie.Need-returns
-returns c = λ q n after es gs ms rules st r h. stepped-faulty h (Lift q n) after _ _ _ _ _ (c .faulty .ensures) (fault-lift h q n ∙ order-first _ _ _ (c .before .before .order-fault .ensures) (c .before .if1 .taken)) (c .before .if1 .taken)
+returns c = λ q n after es gs ms rules st a r h. stepped-faulty h (Lift q n) after _ _ _ _ _ (c .faulty .ensures) (fault-lift h a q n ∙ order-first _ _ _ (c .before .before .order-fault .ensures) (c .before .if1 .taken)) (c .before .if1 .taken)
 
 add-q : tie.Need-add-q
 add-q c = search needs
@@ -24,7 +24,7 @@ add-q-2 c = search needs
 returns-2 : tie.Need-returns-2
 returns-2 c =
     let order-fault = c .before .before .before .order-fault in
-    λ q n after es gs ms rules st r h. stepped-lift h q n after (fault-lift h q n ∙ order-second _ _ _ (order-fault .ensures) (c .before .before .if1 .left))
+    λ q n after es gs ms rules st a r h. stepped-lift h q n after (fault-lift h a q n ∙ order-second _ _ _ (order-fault .ensures) (c .before .before .if1 .left))
 
 pub lift-step-spec : {M : Type 1} → statement M
 lift-step-spec =

@@ -6,18 +6,18 @@ use native.Mathlib.Omega.{arith}
 use lib.ListN.{length}
 use lib.Seq.{length-take-le}
 use Rattle.sheet.specs.Rules.{Rules}
-use Rattle.sheet.specs.Reading.{ReadingState, faultOf}
+use Rattle.sheet.specs.Reading.{ReadingState}
 use Rattle.sheet.specs.InnerHolding.{Holds}
 use Rattle.sheet.specs.declared.Line.the-variants.{Mark}
-use Rattle.sheet.proofs.HoldLaws.{order-first, order-second, fault-mark, stepped-faulty, stepped-mark, mark-room, different-few, marked-few, marks-long}
+use Rattle.sheet.proofs.HoldLaws.{order-first, order-second, laterMark, fault-mark, stepped-faulty, stepped-mark, mark-room, different-few, marked-few, marks-long}
 use borrow.Author.Needs.{needs}
 use Rattle.sheet.proofs.mark_step.Statement.{statement}
 use Rattle.sheet.proofs.mark_step.Tie as tie
 
 -- after both searches the mark has no fault, and so there is room for it
 no-fault : (c : tie.After-struct-known) (rules : Rules) (st : ReadingState) (es : List ℕ)
-    → Holds rules st (c .before .before .before .before .before .before .before .before .before .before .before .args .p) es (c .before .before .before .before .before .before .before .before .before .before .before .args .groups .now) (c .before .before .before .before .before .before .before .before .before .before .before .args .marks .now)
-    → faultOf rules st (Mark (c .before .before .before .before .before .before .before .before .before .before .before .args .g)) ≡ 0
+    → (h : Holds rules st (c .before .before .before .before .before .before .before .before .before .before .before .args .p) es (c .before .before .before .before .before .before .before .before .before .before .before .args .groups .now) (c .before .before .before .before .before .before .before .before .before .before .before .args .marks .now))
+    → laterMark h (c .before .before .before .before .before .before .before .before .before .before .before .args .g) ≡ 0
 no-fault c rules st es h =
     let order-fault = c .before .before .before .before .before .before .before .before .order-fault in
     let if1 = c .before .before .before .before .before .before .before .if1 in
@@ -25,7 +25,7 @@ no-fault c rules st es h =
     let if2 = c .before .before .before .before .if2 in
     let i = sym (is-in .ensures) ∙ if2 .taken in
     let j = sym (c .before .before .is-in2 .ensures) ∙ c .before .if3 .left in
-    fault-mark h _ ∙ (order-second _ _ _ (order-fault .ensures) (if1 .left) ∙ rw (i, j))
+    order-second _ _ _ (order-fault .ensures) (if1 .left) ∙ rw (i, j)
 
 room : (c : tie.After-struct-known)
     → c .before .before .before .before .before .before .before .before .before .before .before .args .p .marked < length (c .before .before .before .before .before .before .before .before .before .before .before .args .marks .now)
@@ -43,7 +43,7 @@ faulty-requires c κs = search needs
 returns : tie.Need-returns
 returns c =
     let args = c .before .before .before .before .before .args in
-    λ after es rules st r h. stepped-faulty h (Mark (args .g)) _ _ _ _ _ _ (c .faulty .ensures) (fault-mark h _ ∙ order-first _ _ _ (c .before .before .order-fault .ensures) (c .before .if1 .taken)) (c .before .if1 .taken)
+    λ after es rules st a r h. stepped-faulty h (Mark (args .g)) _ _ _ _ _ _ (c .faulty .ensures) (fault-mark h a _ ∙ order-first _ _ _ (c .before .before .order-fault .ensures) (c .before .if1 .taken)) (c .before .if1 .taken)
 
 slice-aggregate-is-in : tie.Need-slice-aggregate-is-in
 slice-aggregate-is-in c =
@@ -79,8 +79,8 @@ returns-2 c =
     let if1 = c .before .before .before .before .before .before .before .if1 in
     let is-in = c .before .before .before .before .before .is-in in
     let if2 = c .before .before .before .before .if2 in
-    λ after es rules st r h. let i = sym (is-in .ensures) ∙ if2 .taken in let j = sym (c .before .before .is-in2 .ensures) ∙ c .before .if3 .taken in
-    stepped-faulty h (Mark (args .g)) _ _ _ _ _ _ (c .faulty2 .ensures) (fault-mark h _ ∙ (order-second _ _ _ (order-fault .ensures) (if1 .left) ∙ rw (i, j))) (λ z. omega arith)
+    λ after es rules st a r h. let i = sym (is-in .ensures) ∙ if2 .taken in let j = sym (c .before .before .is-in2 .ensures) ∙ c .before .if3 .taken in
+    stepped-faulty h (Mark (args .g)) _ _ _ _ _ _ (c .faulty2 .ensures) (fault-mark h a _ ∙ (order-second _ _ _ (order-fault .ensures) (if1 .left) ∙ rw (i, j))) (λ z. omega arith)
 
 add-q : tie.Need-add-q
 add-q c = search needs
@@ -104,7 +104,7 @@ same-length-2 c = search needs
 returns-3 : tie.Need-returns-3
 returns-3 c =
     let args = c .before .before .before .before .before .before .before .before .before .before .before .args in
-    λ after es rules st r h. stepped-mark h (args .g) after (no-fault c rules st es h)
+    λ after es rules st a r h. stepped-mark h (args .g) after (fault-mark h a _ ∙ no-fault c rules st es h)
 
 faulty-requires-3 : tie.Need-faulty-requires-3
 faulty-requires-3 c κs = search needs
@@ -114,8 +114,8 @@ returns-4 c =
     let args = c .before .before .before .before .before .before .before .before .args in
     let order-fault = c .before .before .before .before .before .order-fault in
     let if1 = c .before .before .before .before .if1 in
-    λ after es rules st r h. let i = sym (c .before .before .is-in .ensures) ∙ c .before .if2 .left in
-    stepped-faulty h (Mark (args .g)) _ _ _ _ _ _ (c .faulty3 .ensures) (fault-mark h _ ∙ (order-second _ _ _ (order-fault .ensures) (if1 .left) ∙ rw i)) (λ z. omega arith)
+    λ after es rules st a r h. let i = sym (c .before .before .is-in .ensures) ∙ c .before .if2 .left in
+    stepped-faulty h (Mark (args .g)) _ _ _ _ _ _ (c .faulty3 .ensures) (fault-mark h a _ ∙ (order-second _ _ _ (order-fault .ensures) (if1 .left) ∙ rw i)) (λ z. omega arith)
 
 pub mark-step-spec : {M : Type 1} → statement M
 mark-step-spec =

@@ -1,7 +1,7 @@
 -- `read`: the outcome as an answer.
-use mathlib.Core.Path.{_∙_}
+use mathlib.Core.Path.{ap, _∙_}
 use Rattle.sheet.specs.Rules.{sheetRules}
-use Rattle.sheet.specs.Reading.{reading}
+use Rattle.sheet.specs.Reading.{reading, sheetOf}
 use Rattle.sheet.proofs.LoopLaws.{gives-refused, gives-accepted}
 use borrow.Author.Needs.{needs}
 use Rattle.sheet.proofs.read.Statement.{statement}
@@ -23,7 +23,7 @@ returns : tie.Need-returns
 returns c =
     let args = c .before .before .before .before .before .before .before .before .before .args in
     let read-lines = c .before .before .before .before .before .read-lines in
-    c .refusal .ensures ∙ gives-refused sheetRules (reading (args .sheet .now)) (read-lines .result) _ _ (read-lines .ensures) (c .before .if1 .taken)
+    c .refusal .ensures ∙ ap sheetOf (gives-refused sheetRules (reading (args .sheet .now)) (read-lines .result) _ _ (read-lines .ensures) (c .before .if1 .taken))
 
 acceptance-requires : tie.Need-acceptance-requires
 acceptance-requires c κs = search needs

@@ -3,43 +3,43 @@ use mathlib.Core.Path.{_≡_, refl, sym, ap, _∙_}
 use Prim.Native.Nat.{_≤_, _-_}
 use native.Mathlib.Omega.{arith}
 use lib.ListN.{length}
-use Rattle.sheet.specs.Rules.{withNodes, sheetRules}
+use Rattle.sheet.specs.Rules.{withNodes, withTasks, sheetRules}
 use Rattle.sheet.specs.Reading.{mostBytes}
 use Rattle.sheet.specs.InnerLines.{lineAt}
 use Rattle.sheet.specs.InnerHolding.{AfterLine}
-use Rattle.sheet.proofs.LineAtLaws.{line-at-range, line-at-nodes, OneLine, one-line}
+use Rattle.sheet.proofs.LineAtLaws.{line-at-range, line-at-alike, OneLine, one-line}
 use Rattle.sheet.proofs.HoldLaws.{tree-long, marks-long, groups-long, holds-gives}
 use Rattle.sheet.proofs.LoopLaws.{Running, running-nothing-read, read-long, running-refused, running-next, running-accepted, running-open}
 use Rattle.sheet.proofs.read_lines.Statement.{statement}
 use Rattle.sheet.proofs.read_lines.Tie as tie
 
 abbrev Inv-loop : tie.InvT-loop
-Inv-loop sheet tree₀ marks₀ p₀ groups₀ at₀ tree marks p groups at = (length sheet ≤ mostBytes) × (at ≤ length sheet) × (p .line ≤ at) × Running (withNodes (length tree₀) sheetRules) sheet p tree groups marks at
+Inv-loop sheet tasks tree₀ marks₀ p₀ groups₀ at₀ tree marks p groups at = (length sheet ≤ mostBytes) × (at ≤ length sheet) × (p .line ≤ at) × Running (withTasks tasks (withNodes (length tree₀) sheetRules)) sheet p tree groups marks at
 
 abbrev μ-loop : tie.MeasureT-loop
-μ-loop sheet tree₀ marks₀ p₀ groups₀ at₀ tree marks p groups at = length sheet - at
+μ-loop sheet tasks tree₀ marks₀ p₀ groups₀ at₀ tree marks p groups at = length sheet - at
 
 -- after a line's step: the line at the byte, by the rules with as many nodes as there is room for, and what the step did
 line-is : (c : tie.After-step Inv-loop μ-loop) → c .before .before .before .before .line-at .result
-    ≡ lineAt (withNodes (length (c .before .before .before .before .before .before .before .before .before .before .before .args .tree .now)) sheetRules) (c .before .before .before .before .before .before .before .before .before .before .before .args .sheet .now) (c .before .before .before .before .before .before .loop .at)
-line-is c = c .before .before .before .before .line-at .ensures ∙ line-at-nodes sheetRules _ _ _
+    ≡ lineAt (withTasks (c .before .before .before .before .before .before .before .before .before .before .before .args .tasks) (withNodes (length (c .before .before .before .before .before .before .before .before .before .before .before .args .tree .now)) sheetRules)) (c .before .before .before .before .before .before .before .before .before .before .before .args .sheet .now) (c .before .before .before .before .before .before .loop .at)
+line-is c = c .before .before .before .before .line-at .ensures ∙ line-at-alike sheetRules _ refl _ _
 
-one-read : (c : tie.After-step Inv-loop μ-loop) → OneLine (withNodes (length (c .before .before .before .before .before .before .before .before .before .before .before .args .tree .now)) sheetRules) (c .before .before .before .before .before .before .before .before .before .before .before .args .sheet .now) (c .before .before .before .before .before .before .loop .at) (c .before .before .before .before .line-at .result)
+one-read : (c : tie.After-step Inv-loop μ-loop) → OneLine (withTasks (c .before .before .before .before .before .before .before .before .before .before .before .args .tasks) (withNodes (length (c .before .before .before .before .before .before .before .before .before .before .before .args .tree .now)) sheetRules)) (c .before .before .before .before .before .before .before .before .before .before .before .args .sheet .now) (c .before .before .before .before .before .before .loop .at) (c .before .before .before .before .line-at .result)
 one-read c =
     let args = c .before .before .before .before .before .before .before .before .before .before .before .args in
     let loop = c .before .before .before .before .before .before .loop in
     let loop-test = c .before .before .before .before .before .loop-test in
-    rw (← line-is c) at (one-line (withNodes (length (args .tree .now)) sheetRules) (args .sheet .now) (loop .at) (loop-test .taken))
+    rw (← line-is c) at (one-line (withTasks (args .tasks) (withNodes (length (args .tree .now)) sheetRules)) (args .sheet .now) (loop .at) (loop-test .taken))
 
 stepped : (c : tie.After-step Inv-loop μ-loop)
     → let s = c .before .before .before .before .before .before .before .before .before .before .before .args .sheet .now in let at = c .before .before .before .before .before .before .loop .at in
-    let rules = withNodes (length (c .before .before .before .before .before .before .before .before .before .before .before .args .tree .now)) sheetRules in
+    let rules = withTasks (c .before .before .before .before .before .before .before .before .before .before .before .args .tasks) (withNodes (length (c .before .before .before .before .before .before .before .before .before .before .before .args .tree .now)) sheetRules) in
     AfterLine rules (c .before .before .before .before .before .before .loop .inv .3 .st) (lineAt rules s at .line) (lineAt rules s at .next) (c .before .before .before .before .before .before .loop .p) (c .step .result)
     (c .step .last .1 .1 .1 .0) (c .step .last .1 .1 .1 .1 .0) (c .step .last .1 .1 .1 .1 .1 .0)
 stepped c =
     let loop = c .before .before .before .before .before .before .loop in
     let R = loop .inv .3 in
-    rw (line-is c) at (c .step .ensures _ (R .st) (rw (line-is c) (line-at-range _ (omega arith) _ (loop .at))) (R .held))
+    rw (line-is c) at (c .step .ensures _ (R .st) refl (rw (line-is c) (line-at-range _ (omega arith) _ (loop .at))) (R .held))
 
 marks-were : (c : tie.After-step Inv-loop μ-loop) → length (c .before .before .before .before .before .before .loop .marks) ≡ length (c .before .before .before .before .before .before .before .before .before .before .before .args .marks .now)
 marks-were c =

@@ -1,9 +1,9 @@
--- `key_program::print` meets its contract: the part that is printed has as many bytes as it should.
+-- `output::print` meets its contract: the part that is printed has as many bytes as it should.
 use mathlib.Core.Path.{sym}
 use borrow.Author.Needs.{needs}
 use lib.Seq.{length-take-le}
-use Rattle.key_program.proofs.print.Statement.{statement}
-use Rattle.key_program.proofs.print.Tie as tie
+use Rattle.output.proofs.print.Statement.{statement}
+use Rattle.output.proofs.print.Tie as tie
 
 slice-aggregate-write-all : tie.Need-slice-aggregate-write-all
 slice-aggregate-write-all c =
