@@ -1,18 +1,23 @@
 -- The status of a tree is right: where it names a holder the tree is gathered with that holder, and a gathered tree's status
--- names its holder.
+-- names its holder. So a status that names one says of a list that it is a gathered tree.
 use mathlib.Core.Path.{_≡_, refl, sym, ap, ap₂, subst, _∙_}
-use mathlib.Core.Bool.{Bool, true, false, cond, not}
+use mathlib.Core.Bool.{Bool, true, false, cond, not, false≢true}
 use mathlib.Core.Logic.{_⊎_, inl, inr}
 use mathlib.Core.List.{List, [], _∷_, _++_}
+use mathlib.Core.Option.{some}
 use Prim.Native.Nat.{ℕ, _+_, _-_}
 use native.Mathlib.Omega.{arith}
 use borrow.Author.Tests.{not-true}
 use lib.ListN.{length, length-append}
-use Rattle.tree.specs.Tree.{Operator, Tree, leaf, node, postfix, size, Over}
+use Rattle.common.specs.Exactly.{Exactly}
+use Rattle.tree.specs.Tree.{Operator, Tree, leaf, node, postfix, size, Over, isIn}
 use Rattle.tree.specs.Context.{left, right, Frame, frame, plug, before, OverAbove}
 use Rattle.tree.specs.InnerPass.{fold}
+use Rattle.tree.specs.Parse.{treeOf, isSome}
 use Rattle.tree.proofs.TreeLaws.{postfix-length, size-positive}
+use Rattle.tree.proofs.ParseLaws.{IsTree}
 use Rattle.gather.specs.Gathering.{Gathered}
+use Rattle.gather.specs.Inner.{namesHolder, GatheredList}
 use Rattle.holding.specs.InnerHolding.{merged, status}
 use Rattle.holding.specs.declared.Status.{Status}
 use Rattle.holding.specs.declared.Status.the-variants.{Free, Mixed, All, Held}
@@ -106,3 +111,30 @@ gathered-status {m} {t} {p} g =
 -- a status that names none: the tree is not gathered
 pub status-not : {m : ℕ → Bool} {t : Tree} {p : ℕ} (s : Status) → status m 0 t ≡ s → ((k : ℕ) → Names s k → ⊥) → Gathered m t p → ⊥
 status-not {m} {t} {p} s e n g = n p (subst (λ (x : Status). Names x p) e (gathered-status g))
+
+-- ---- whether a list is a gathered tree
+names-some : (s : Status) → namesHolder s ≡ true → (k : ℕ) × Names s k
+names-some Free e = absurd (false≢true e)
+names-some Mixed e = absurd (false≢true e)
+names-some (All k) e = (k, inr refl)
+names-some (Held k) e = (k, inl refl)
+
+some-named : (s : Status) (k : ℕ) → Names s k → namesHolder s ≡ true
+some-named s k (inl e) = ap namesHolder e
+some-named s k (inr e) = ap namesHolder e
+
+-- a tree's status says it
+pub says-gathered : {list marks : List ℕ} (T : IsTree list) (r : Bool) → r ≡ namesHolder (status (isIn marks) 0 (T .tree)) → Exactly (r ≡ true) (GatheredList list marks)
+says-gathered {list} {marks} T r e = record {
+  only = λ q.
+      let n = names-some (status (isIn marks) 0 (T .tree)) (sym e ∙ q) in
+      record { tree = T .tree; is = T .is; holder = n .0; gathered = status-gathered (isIn marks) (T .tree) (n .0) (n .1) };
+  always = λ G.
+      let k : some (G .tree) ≡ some (T .tree) = sym (G .is) ∙ T .is in
+      let u : G .tree ≡ T .tree = cc in
+      e ∙ ap (λ (t : Tree). namesHolder (status (isIn marks) 0 t)) (sym u) ∙ some-named (status (isIn marks) 0 (G .tree)) (G .holder) (gathered-status (G .gathered));
+}
+
+-- a list that is no tree is none
+pub says-none : {list marks : List ℕ} → isSome (treeOf list) ≡ false → Exactly (false ≡ true) (GatheredList list marks)
+says-none e = record { only = λ q. absurd (false≢true q); always = λ G. sym e ∙ ap isSome (G .is) }

@@ -8,5 +8,6 @@ pub mod JoiningLaws
 pub mod ChoosingLaws
 pub mod HoldingLaws
 pub mod GatheredLaws
+pub mod AnswerLaws
 mod LoopLaws
-mod WholeLaws
+pub mod WholeLaws

@@ -19,7 +19,7 @@ use Rattle.tree.specs.Writing.{over}
 use Rattle.tree.specs.InnerWriting.{Wrote}
 use Rattle.tree.proofs.TreeLaws.{postfix-length, size-positive, equivalent-refl, over-implies, or-cases, in-right, group-most}
 use Rattle.tree.proofs.GroupLaws.{is-in-here, in-later, in-collect, distinct-collect, distinct-split, collect-begins, collect-distinct, distinct-most, leaves-groups, groups-leaves, over-collect, leaves-postfix}
-use Rattle.tree.proofs.ParseLaws.{IsTree, tree-of-sound, postfix-injective}
+use Rattle.tree.proofs.ParseLaws.{IsTree, tree-length, tree-of-sound, postfix-injective}
 use Rattle.tree.proofs.WritingLaws.{wrote-over, wrote-take}
 use Rattle.table.specs.InnerTable.{rowCount, table, rowsOf, Listed}
 use Rattle.table.proofs.TableLaws.{Tabled, table-at, rows-most}
@@ -305,8 +305,11 @@ faultless list marks room h = go (ltb room mostNodes) refl h
     go true e q = absurd (omega arith)
     go false e q = tree-fault (treeOf list) refl (ltb-false room mostNodes e) q
 
+pub tree-listed : {list : List ℕ} → IsTree list → Listed list
+tree-listed T = (T .tree, T .list, omega (arith, T .most, tree-length T))
+
 pub faultless-list : {list marks : List ℕ} {room : ℕ} → Faultless list marks room → Listed list
-faultless-list {list} f = (f .tree .tree, f .tree .list, omega (arith, f .tree .most, ap length (f .tree .list), postfix-length (f .tree .tree)))
+faultless-list f = tree-listed (f .tree)
 
 -- the tree that the list is
 pub the-same : {list : List ℕ} {t : Tree} → treeOf list ≡ some t → list ≡ postfix t

@@ -1,15 +1,20 @@
--- What the functions inside the crate say of each other. No caller has to believe any of this.
+-- What the functions inside the crate say of each other, and `is_gathered` to the crates above. No caller of `gather` has to believe
+-- any of this.
 use mathlib.Core.Path.{_≡_}
 use mathlib.Core.Bool.{Bool, true, false}
 use mathlib.Core.List.{List}
+use mathlib.Core.Option.{some}
 use Prim.Native.Nat.{ℕ, _<_, _≤_}
 use lib.ListN.{length, take, drop}
 use Rattle.tree.specs.Tree.{Tree, isGroup, postfix, Over, isIn, groups, mostGroups}
+use Rattle.tree.specs.Parse.{treeOf}
 use Rattle.tree.specs.InnerGroups.{Distinct}
 use Rattle.table.specs.InnerTable.{rowsOf}
 use Rattle.builder.specs.InnerBuilding.{postfixOptional}
 use Rattle.columns.specs.InnerJoining.{treeFor}
 use Rattle.columns.specs.declared.Choice.{Choice}
+use Rattle.holding.specs.declared.Status.{Status}
+use Rattle.holding.specs.declared.Status.the-variants.{Free, Mixed, All, Held}
 use Rattle.gather.specs.Gathering.{Gathered}
 
 -- ms and us are groups, each once, ms marked by m and us not
@@ -34,3 +39,17 @@ pub record Ordered (list gs : List ℕ) (m : ℕ) : Type 0 where
   pub over : (t : Tree) → list ≡ postfix t → Over (isIn gs) t
   pub own : (t : Tree) → list ≡ postfix t → (g : ℕ) → isIn gs g ≡ true → isIn (groups t) g ≡ true
   pub not-gathered : (t : Tree) (p : ℕ) → list ≡ postfix t → Gathered (isIn (take m gs)) t p → ⊥
+
+-- whether a status names a holder
+abbrev pub namesHolder : Status → Bool
+namesHolder Free = false
+namesHolder Mixed = false
+namesHolder (All k) = true
+namesHolder (Held k) = true
+
+-- a list of numbers that is a tree which is gathered for the marks
+pub record GatheredList (list marks : List ℕ) : Type 0 where
+  pub tree : Tree
+  pub is : treeOf list ≡ some tree
+  pub holder : ℕ
+  pub gathered : Gathered (isIn marks) tree holder

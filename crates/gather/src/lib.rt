@@ -1,17 +1,18 @@
 // Gathering: a tree with the marked groups under one node, or the proof that no tree has them so.
 ghost use mathlib.Core.Path.{_≡_};
-ghost use mathlib.Core.Bool.{_||_};
+ghost use mathlib.Core.Bool.{true, _||_};
 ghost use mathlib.Core.Option.{some};
 ghost use Prim.Native.Nat.{ℕ, _≤_};
 ghost use lib.Dec.{eqb};
 ghost use lib.ListN.{length, take};
+ghost use Rattle.common.specs.Exactly.{Exactly};
 ghost use Rattle.tree.specs.Tree.{Tree, postfix, isIn, mostNodes};
 ghost use Rattle.tree.specs.Parse.{treeOf};
 ghost use Rattle.tree.specs.InnerWriting.{Wrote};
 ghost use Rattle.table.specs.InnerTable.{rowsOf, Listed};
 ghost use Rattle.columns.specs.Inner.{Room, ReadyFor};
 ghost use Rattle.gather.specs.Gathering.{Gathered};
-ghost use Rattle.gather.specs.Inner.{treeList, Ordered};
+ghost use Rattle.gather.specs.Inner.{treeList, Ordered, namesHolder, GatheredList};
 ghost use Rattle.gather.specs.Answer.{badMark, gatherFault, GathersTree, Gathers};
 ghost use Rattle.gather.specs.InnerGathered.{treeBy, rearranged, gatheredBy, namedBy, Returns, GathersBy};
 use columns::Choice;
@@ -86,6 +87,31 @@ fn fault_of(list: &[u16], marks: &[u16], room: usize) -> u16
         return 0;
     }
     NOT_A_TREE
+}
+
+// ---- a tree that is gathered already
+
+// Whether a status names a holder.
+fn names_holder(status: Status) -> bool
+    ensures { λ r. ⌜ r ≡ namesHolder status ⌝ }
+{
+    match status {
+        Status::Free => false,
+        Status::Mixed => false,
+        Status::All(_) => true,
+        Status::Held(_) => true,
+    }
+}
+
+// Whether a list is a tree that is gathered for the marks.
+pub fn is_gathered(list: &[u16], marks: &[u16]) -> bool
+    ensures { λ r. ⌜ Exactly (r ≡ true) (GatheredList (now (list .entry)) (now (marks .entry))) ⌝ }
+{
+    if tree::is_tree(list) {
+        let status = holding(list, marks);
+        return names_holder(status);
+    }
+    false
 }
 
 // ---- the whole
