@@ -87,7 +87,7 @@ line-two : (word : List ℕ) (a b : ℕ) → length (line word (a ∷ b ∷ []))
 unfolding fieldsAfter
 line-two word a b = omega (arith, line-length word (a ∷ b ∷ []), length-append (field a) (field b ++ []), length-append (field b) [])
 
-line-three : (word : List ℕ) (a b c : ℕ) → length (line word (a ∷ b ∷ c ∷ [])) ≡ length word + length (digits a) + length (digits b) + length (digits c) + 4
+pub line-three : (word : List ℕ) (a b c : ℕ) → length (line word (a ∷ b ∷ c ∷ [])) ≡ length word + length (digits a) + length (digits b) + length (digits c) + 4
 unfolding fieldsAfter
 line-three word a b c =
     omega (arith, line-length word (a ∷ b ∷ c ∷ []), length-append (field a) (field b ++ (field c ++ [])), length-append (field b) (field c ++ []), length-append (field c) [])

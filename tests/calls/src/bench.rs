@@ -1,7 +1,9 @@
 //! The verified program and calls beside the reference: medians of the same inputs, their ratio and its bar.
 //! The two take turns. Buffers are not cleared between calls.
 //!
-//! bench PROGRAM    PROGRAM: the key program; the reference's own is looked for beside this one
+//! bench KEY_PROGRAM MARK_PROGRAM    the reference's own programs are looked for beside this one
+
+mod bench_marks;
 
 use calls::library;
 use reference::calls::{compact_gather_call, encode_call, gather_call, lift_call, play_call};
@@ -246,14 +248,16 @@ fn bench_large_groups(random: &mut Random) {
 }
 
 fn main() -> ExitCode {
-    let Some(program) = std::env::args().nth(1) else {
-        eprintln!("usage: bench PROGRAM");
+    let arguments: Vec<String> = std::env::args().skip(1).collect();
+    let [key_program, mark_program] = &arguments[..] else {
+        eprintln!("usage: bench KEY_PROGRAM MARK_PROGRAM");
         return ExitCode::FAILURE;
     };
-    let own = std::env::current_exe().expect("this program's path").with_file_name("reference_key");
+    let this = std::env::current_exe().expect("this program's path");
     let random = || Random::new(8);
     println!("{:<NAME_WIDTH$} {:>14} {:>14} {:>7}", "medians", "verified", "reference", "ratio");
-    bench_keys(Path::new(&program), &own, &mut random());
+    bench_keys(Path::new(key_program), &this.with_file_name("reference_key"), &mut random());
+    bench_marks::bench_marks(Path::new(mark_program), &this.with_file_name("reference_mark"), &mut random());
     bench_lifts(&mut random());
     bench_gather(&mut random());
     bench_code(&mut random());

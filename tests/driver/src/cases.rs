@@ -134,7 +134,7 @@ const SAMPLES: [(&str, &str); 13] = [
 const LARGE_GROUPS: [u16; 5] = [LAST_GROUP, 10_000, LAST_GROUP - 1, 9999, 32_768];
 
 /// Lines of a sheet or a key with large groups in place of 1 to 5.
-fn with_large_groups(lines: &str) -> String {
+pub fn with_large_groups(lines: &str) -> String {
     let renamed = |line: &str| {
         let mut fields: Vec<String> = line.split(' ').map(str::to_string).collect();
         let place = match fields[0].as_str() {

@@ -67,7 +67,7 @@ fn leaves(random: &mut Random) -> usize {
     random.between(1, most)
 }
 
-fn plain(random: &mut Random) -> Sheet {
+pub fn plain(random: &mut Random) -> Sheet {
     let count = random.between(1, 8);
     let groups = some_groups(count, random);
     let leaves = leaves(random);
@@ -113,7 +113,7 @@ fn add_lifts(sheet: &mut Sheet, mut tree: Vec<u16>, count: usize, choice: Choice
     }
 }
 
-fn lifted(random: &mut Random) -> Sheet {
+pub fn lifted(random: &mut Random) -> Sheet {
     let mut sheet = plain(random);
     let count = random.between(1, 8);
     let tree = sheet.tree.clone();
@@ -121,7 +121,7 @@ fn lifted(random: &mut Random) -> Sheet {
     sheet
 }
 
-fn lifted_near_root(random: &mut Random) -> Sheet {
+pub fn lifted_near_root(random: &mut Random) -> Sheet {
     let count = random.between(1, 8);
     let groups = some_groups(count, random);
     let leaves = random.between(4, 16);
@@ -131,7 +131,7 @@ fn lifted_near_root(random: &mut Random) -> Sheet {
     sheet
 }
 
-fn nested(random: &mut Random) -> Sheet {
+pub fn nested(random: &mut Random) -> Sheet {
     let count = random.between(2, 8);
     let groups = some_groups(count, random);
     let leaves = random.between(4, 60);
@@ -142,14 +142,14 @@ fn nested(random: &mut Random) -> Sheet {
     sheet
 }
 
-fn marked(random: &mut Random) -> Sheet {
+pub fn marked(random: &mut Random) -> Sheet {
     let mut sheet = plain(random);
     mark_some(&mut sheet, random);
     sheet
 }
 
 /// Few marks among many groups, mostly such that no tree gathers them.
-fn not_gatherable(random: &mut Random) -> Sheet {
+pub fn not_gatherable(random: &mut Random) -> Sheet {
     let mut sheet = Sheet::default();
     for _ in 0..8 {
         let count = random.between(2, 8);
@@ -165,7 +165,7 @@ fn not_gatherable(random: &mut Random) -> Sheet {
     sheet
 }
 
-fn few_groups(random: &mut Random) -> Sheet {
+pub fn few_groups(random: &mut Random) -> Sheet {
     let count = random.between(2, 3);
     let groups = some_groups(count, random);
     let leaves = random.between(2, 12);
@@ -174,17 +174,14 @@ fn few_groups(random: &mut Random) -> Sheet {
     sheet
 }
 
-fn lifted_and_marked(random: &mut Random) -> Sheet {
+pub fn lifted_and_marked(random: &mut Random) -> Sheet {
     let mut sheet = if random.one_in(2) { lifted(random) } else { nested(random) };
     mark_some(&mut sheet, random);
     sheet
 }
 
 /// A holder over marked groups inside frames of unmarked ones.
-fn gathered(random: &mut Random) -> Sheet {
-    let count = random.between(2, 8);
-    let all = some_groups(count, random);
-    let (marked, others) = all.split_at(random.between(1, count - 1));
+pub fn gathered_tree(marked: &[u16], others: &[u16], random: &mut Random) -> Vec<u16> {
     let leaves = random.between(1, 5);
     let mut tree = Shape::any(random).tree(leaves, marked, random);
     for _ in 0..random.between(1, 5) {
@@ -193,6 +190,14 @@ fn gathered(random: &mut Random) -> Sheet {
         let operator = random.pick(&[Operator::Union, Operator::Difference]);
         tree = if random.one_in(2) { join(&tree, &other, operator) } else { join(&other, &tree, operator) };
     }
+    tree
+}
+
+pub fn gathered(random: &mut Random) -> Sheet {
+    let count = random.between(2, 8);
+    let all = some_groups(count, random);
+    let (marked, others) = all.split_at(random.between(1, count - 1));
+    let tree = gathered_tree(marked, others, random);
     let mut marks: Vec<u16> = groups(&tree).into_iter().filter(|group| marked.contains(group)).collect();
     random.shuffle(&mut marks);
     Sheet { tree, marks, ..Sheet::default() }
@@ -224,7 +229,7 @@ fn rewritten(nodes: &Nodes, node: usize, random: &mut Random) -> Vec<u16> {
 }
 
 /// A gathered tree rewritten until it is not gathered any more (or too large to go on).
-fn distorted(random: &mut Random) -> Sheet {
+pub fn distorted(random: &mut Random) -> Sheet {
     let mut sheet = gathered(random);
     for _ in 0..6 {
         let nodes = Nodes::parse(&sheet.tree).expect("a tree");
@@ -241,7 +246,7 @@ fn distorted(random: &mut Random) -> Sheet {
 }
 
 /// Any function that a gathered tree has, given by its table.
-fn gatherable(random: &mut Random) -> Sheet {
+pub fn gatherable(random: &mut Random) -> Sheet {
     loop {
         let count = random.between(2, 6);
         let marked = random.between(1, count - 1);
@@ -254,7 +259,7 @@ fn gatherable(random: &mut Random) -> Sheet {
 }
 
 /// A sheet whose lifts come to the node limit, and more lifts there.
-fn grown(random: &mut Random) -> Sheet {
+pub fn grown(random: &mut Random) -> Sheet {
     let (mut sheet, tree) = grown_to_limit(random);
     let count = random.between(0, 3);
     add_lifts(&mut sheet, tree, count, some_lift, random);
@@ -266,7 +271,7 @@ fn grown(random: &mut Random) -> Sheet {
 
 /// A whole sheet with one line too many: a ninth group, a node past the limit, an operator without
 /// operands, a mark that is not in the tree, a mark twice, or the number after the last group.
-fn one_fault(random: &mut Random) -> Vec<u8> {
+pub fn one_fault(random: &mut Random) -> Vec<u8> {
     let groups = some_groups(9, random);
     let mut sheet = unmarked(Shape::any(random).tree(SHEET_NODES.div_ceil(2), &groups[..8], random));
     mark_some(&mut sheet, random);
@@ -288,13 +293,13 @@ fn one_fault(random: &mut Random) -> Vec<u8> {
 }
 
 /// Any sheet to be damaged.
-fn whole(random: &mut Random) -> Vec<u8> {
+pub fn whole(random: &mut Random) -> Vec<u8> {
     let make: fn(&mut Random) -> Sheet = random.pick(&[plain, lifted, marked, lifted_and_marked, gathered]);
     make(random).print()
 }
 
 /// Bytes that sheets are made of, in no order, and at times any bytes.
-fn noise(random: &mut Random) -> Vec<u8> {
+pub fn noise(random: &mut Random) -> Vec<u8> {
     let signs = b"GUDLKE\t\n\t\n\t\n0123456789";
     let any = random.one_in(3);
     let count = random.below(60);

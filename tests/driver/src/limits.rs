@@ -23,12 +23,12 @@ fn accepted(name: &str, bytes: Vec<u8>) -> Case {
 }
 
 /// Lines of `G`, as many as asked for, over the first eight groups.
-fn group_lines(count: usize) -> String {
+pub fn group_lines(count: usize) -> String {
     (0..count).map(|line| format!("G\t{}\n", line % 8 + 1)).collect()
 }
 
 /// Group lines and operators that make one tree of `nodes` nodes.
-fn tree_lines(nodes: usize) -> String {
+pub fn tree_lines(nodes: usize) -> String {
     group_lines(nodes.div_ceil(2)) + &"U\n".repeat(nodes / 2)
 }
 
@@ -129,7 +129,7 @@ fn long_keys() -> Vec<Case> {
 }
 
 /// A sheet of exactly so many bytes, filled up with lifts.
-fn sheet_of(bytes: usize) -> Vec<u8> {
+pub fn sheet_of(bytes: usize) -> Vec<u8> {
     let mut text = String::from("G\t1\nG\t2\nD\nG\t3\nD\nG\t4\nU\nG\t5\nD\n");
     let end = "E\n";
     while (bytes - text.len() - end.len()) % 6 != 0 {

@@ -5,16 +5,7 @@
 //!   VECTORS  a folder of NAME.sheet with NAME.key
 //!   TARGET   a folder to which failing sheets and their keys are saved
 
-mod cases;
-mod damage;
-mod generate;
-mod growth;
-mod limits;
-mod program;
-mod self_tests;
-mod sheets;
-mod vectors;
-
+use driver::{cases, generate, limits, program, self_tests, sheets, vectors};
 use reference::key_check::Trait;
 use reference::report::Report;
 use std::path::PathBuf;
@@ -57,11 +48,6 @@ fn least_counts(sheets: usize) -> Vec<(String, usize)> {
     least
 }
 
-/// The reference's program stands beside this one.
-fn own_program() -> std::io::Result<PathBuf> {
-    Ok(std::env::current_exe()?.with_file_name("reference_key"))
-}
-
 fn run(arguments: &[String]) -> Result<bool, String> {
     let [program, vectors, target, rest @ ..] = arguments else {
         return Err("usage: driver PROGRAM VECTORS TARGET [SHEETS [SEED]]".to_string());
@@ -69,10 +55,9 @@ fn run(arguments: &[String]) -> Result<bool, String> {
     let number = |at: usize, default: u64| rest.get(at).map_or(Ok(default), |text| text.parse::<u64>());
     let random_sheets = number(0, SHEETS as u64).map_err(|error| error.to_string())? as usize;
     let seed = number(1, SEED).map_err(|error| error.to_string())?;
-    let own = own_program().map_err(|error| error.to_string())?;
-    let program = if program == "--self" { own } else { PathBuf::from(program) };
+    let program = program::named(program, "reference_key")?;
 
-    let mut cases = vectors::vectors(vectors.as_ref()).map_err(|error| format!("{vectors}: {error}"))?;
+    let mut cases = vectors::sheets(vectors.as_ref()).map_err(|error| format!("{vectors}: {error}"))?;
     cases.extend(cases::cases());
     cases.extend(limits::limits());
     let mut report = Report::new(PathBuf::from(target));

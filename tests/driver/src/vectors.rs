@@ -1,27 +1,43 @@
-//! The sheets and keys of a folder.
+//! The files of a folder and their one right answer.
 
 use crate::cases::{Case, Expected};
+use crate::marks::pair::{File, Pair};
+use std::fs::read;
 use std::io::{Error, Result};
 use std::path::{Path, PathBuf};
 
-fn sheet_paths(folder: &Path) -> Result<Vec<PathBuf>> {
+/// The files of this extension; there must be some.
+fn paths(folder: &Path, extension: &str) -> Result<Vec<PathBuf>> {
     let mut paths: Vec<PathBuf> = std::fs::read_dir(folder)?.map(|entry| Ok(entry?.path())).collect::<Result<_>>()?;
-    paths.retain(|path| path.extension().is_some_and(|extension| extension == "sheet"));
+    paths.retain(|path| path.extension().is_some_and(|found| found == extension));
     paths.sort();
+    if paths.is_empty() {
+        return Err(Error::other(format!("the folder of vectors holds no {extension}")));
+    }
     Ok(paths)
 }
 
-pub fn vectors(folder: &Path) -> Result<Vec<Case>> {
-    let paths = sheet_paths(folder)?;
-    if paths.is_empty() {
-        return Err(Error::other("the folder of vectors holds no sheet"));
-    }
-    let read = |path: &PathBuf| {
-        Ok(Case {
-            name: format!("vector {}", path.display()),
-            bytes: std::fs::read(path)?,
-            expected: Expected::Key(std::fs::read(path.with_extension("key"))?),
+fn name(path: &Path) -> String {
+    format!("vector {}", path.display())
+}
+
+/// NAME.sheet with NAME.key.
+pub fn sheets(folder: &Path) -> Result<Vec<Case>> {
+    let case = |path: &PathBuf| {
+        Ok(Case { name: name(path), bytes: read(path)?, expected: Expected::Key(read(path.with_extension("key"))?) })
+    };
+    paths(folder, "sheet")?.iter().map(case).collect()
+}
+
+/// NAME.question and NAME.candidate with NAME.mark.
+pub fn pairs(folder: &Path) -> Result<Vec<Pair>> {
+    let pair = |path: &PathBuf| {
+        Ok(Pair {
+            name: name(path),
+            question: File::Bytes(read(path)?),
+            candidate: File::Bytes(read(path.with_extension("candidate"))?),
+            due: Some(read(path.with_extension("mark"))?),
         })
     };
-    paths.iter().map(read).collect()
+    paths(folder, "question")?.iter().map(pair).collect()
 }

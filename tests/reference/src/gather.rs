@@ -44,7 +44,8 @@ pub fn rows(tree: &[u16], groups: &[u16]) -> [bool; ROWS] {
     rows
 }
 
-fn constant(column: &[bool]) -> bool {
+/// Whether a column does not vary.
+pub fn constant(column: &[bool]) -> bool {
     column.iter().all(|&value| value == column[0])
 }
 

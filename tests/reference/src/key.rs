@@ -78,7 +78,8 @@ pub fn key_bytes(bytes: &[u8]) -> Vec<u8> {
     }
 }
 
-fn line(name: &str, numbers: &[usize], bytes: &mut Vec<u8>) {
+/// Adds a line: a name and numbers, parted by tabs.
+pub fn line(name: &str, numbers: &[usize], bytes: &mut Vec<u8>) {
     bytes.extend(name.as_bytes());
     for number in numbers {
         bytes.push(b'\t');

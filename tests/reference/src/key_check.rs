@@ -42,7 +42,7 @@ pub enum Trait {
 }
 
 /// The tree that instructions compute in register 0, if each result is used once.
-fn decode(code: &[u16]) -> Option<Vec<u16>> {
+pub fn decode(code: &[u16]) -> Option<Vec<u16>> {
     let mut nodes = Nodes::default();
     let mut registers: [Option<usize>; REGISTERS as usize] = [None; REGISTERS as usize];
     for instruction in code.chunks(INSTRUCTION_NUMBERS) {

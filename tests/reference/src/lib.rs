@@ -1,4 +1,4 @@
-//! A second implementation of document 01, and the checks that use it.
+//! A second implementation of documents 01 and 02, and the checks that use it.
 
 pub mod calls;
 pub mod check;
@@ -10,6 +10,8 @@ pub mod gather;
 pub mod key;
 pub mod key_check;
 pub mod lift;
+pub mod mark;
+pub mod mark_check;
 pub mod player;
 pub mod random;
 pub mod refusal;

@@ -1,4 +1,4 @@
-//! 01's refusal numbers.
+//! The refusal numbers of 01 and 02.
 
 pub type Refusal = u16;
 
@@ -29,3 +29,6 @@ pub const CODE_LENGTH: Refusal = 22;
 pub const INSTRUCTION: Refusal = 23;
 pub const PATCH_LENGTH: Refusal = 24;
 pub const PAIR: Refusal = 25;
+
+/// 02, request 5.
+pub const FOREIGN_GROUP: Refusal = 26;

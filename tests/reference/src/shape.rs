@@ -141,7 +141,7 @@ pub fn levels_of_nodes(tree: &[u16]) -> Vec<usize> {
 }
 
 /// The tree of one row of a table: in the groups whose bit is 1, not in the others.
-fn row_tree(row: usize, groups: &[u16]) -> Vec<u16> {
+pub fn row_tree(row: usize, groups: &[u16]) -> Vec<u16> {
     let (inside, outside): (Vec<usize>, Vec<usize>) = (0..groups.len()).partition(|place| row >> place & 1 == 1);
     let mut tree = vec![groups[inside[0]]];
     for &place in &inside[1..] {

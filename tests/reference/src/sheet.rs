@@ -1,7 +1,7 @@
-//! Reading a sheet (01, "The sheet"; 02's requests where they change it).
+//! Reading a sheet (01, "The sheet"; 02's requests where they change it) or a candidate's file (02, request 5).
 
 use crate::refusal::*;
-use crate::tree::{Operator, DIFFERENCE, LAST_GROUP, UNION};
+use crate::tree::{Operator, DIFFERENCE, LAST_GROUP, MAXIMUM_NODES, UNION};
 
 pub const SHEET_BYTES: usize = 60_000;
 /// 02, request 1.
@@ -10,12 +10,28 @@ const MAXIMUM_GROUPS: usize = 8;
 const LAST_POSITION: usize = 8190;
 const MAXIMUM_LEVELS: usize = 99;
 
-#[derive(Default, Debug, PartialEq, Eq)]
+/// In what the files that are read differ.
+#[derive(Clone, Copy)]
+struct Rules {
+    nodes: usize,
+    /// Whether lifts and marks have a place.
+    lifts_and_marks: bool,
+}
+
+const SHEET_RULES: Rules = Rules { nodes: SHEET_NODES, lifts_and_marks: true };
+const CANDIDATE_RULES: Rules = Rules { nodes: MAXIMUM_NODES, lifts_and_marks: false };
+
+#[derive(Clone, Default, Debug, PartialEq, Eq)]
 pub struct Sheet {
     pub tree: Vec<u16>,
     /// Position and levels.
     pub lifts: Vec<(usize, usize)>,
     pub marks: Vec<u16>,
+}
+
+/// A candidate's file: the tree as tree lines, closed by `E`.
+pub fn print_tree(tree: &[u16]) -> Vec<u8> {
+    Sheet { tree: tree.to_vec(), ..Sheet::default() }.print()
 }
 
 impl Sheet {
@@ -101,6 +117,7 @@ fn parse_line(line: &[u8]) -> Option<Line> {
 
 /// What has been read so far.
 struct Reader {
+    rules: Rules,
     sheet: Sheet,
     groups: Vec<u16>,
     waiting: usize,
@@ -110,7 +127,8 @@ struct Reader {
 impl Reader {
     fn line(&mut self, bytes: &[u8]) -> Result<(), Refusal> {
         let line = parse_line(bytes).ok_or(NO_SUCH_FORM)?;
-        if line.place() < self.place {
+        let placeless = !self.rules.lifts_and_marks && matches!(line, Line::Lift(..) | Line::Mark(_));
+        if placeless || line.place() < self.place {
             return Err(OUT_OF_PLACE);
         }
         let first_after_tree = self.place == Place::Tree && line.place() != Place::Tree;
@@ -149,7 +167,7 @@ impl Reader {
     }
 
     fn node(&mut self, number: u16) -> Result<(), Refusal> {
-        if self.sheet.tree.len() == SHEET_NODES {
+        if self.sheet.tree.len() == self.rules.nodes {
             return Err(TOO_MANY_NODES);
         }
         self.sheet.tree.push(number);
@@ -168,11 +186,11 @@ impl Reader {
     }
 }
 
-pub fn read(bytes: &[u8]) -> Result<Sheet, Fault> {
+fn read_by(rules: Rules, bytes: &[u8]) -> Result<Sheet, Fault> {
     if bytes.len() > SHEET_BYTES {
         return Err(Fault { number: OVER_60000_BYTES, line: 0 });
     }
-    let mut reader = Reader { sheet: Sheet::default(), groups: Vec::new(), waiting: 0, place: Place::Tree };
+    let mut reader = Reader { rules, sheet: Sheet::default(), groups: Vec::new(), waiting: 0, place: Place::Tree };
     let mut lines = 0;
     for line in bytes.split_inclusive(|&byte| byte == b'\n') {
         lines += 1;
@@ -182,4 +200,13 @@ pub fn read(bytes: &[u8]) -> Result<Sheet, Fault> {
         return Err(Fault { number: NO_END, line: lines + 1 });
     }
     Ok(reader.sheet)
+}
+
+pub fn read(bytes: &[u8]) -> Result<Sheet, Fault> {
+    read_by(SHEET_RULES, bytes)
+}
+
+/// The tree of a candidate's file.
+pub fn read_candidate(bytes: &[u8]) -> Result<Vec<u16>, Fault> {
+    read_by(CANDIDATE_RULES, bytes).map(|sheet| sheet.tree)
 }

@@ -1,0 +1,13 @@
+//! The inputs of the programs `driver` (keys) and `marks`, and what the two have in common.
+
+pub mod cases;
+pub mod damage;
+pub mod generate;
+pub mod growth;
+pub mod limits;
+pub mod marks;
+pub mod program;
+pub mod self_tests;
+pub mod sheets;
+pub mod vectors;
+pub mod workers;
