@@ -118,7 +118,7 @@ module _ (question candidate : List ℕ) (r : Marking) (M : Marks question candi
       k .4 .notGathered .only s .1 (gathered-none (G .state .marks) (k .2) (ap length z))
 
 -- ---- the tree that the question's lifts leave
-module _ (question : List ℕ) (q : ReadingState) (e : reading question ≡ accepted q) (t : Tree) (is : treeOf (q .entries) ≡ some t) (out out′ : List ℕ) where
+module _ (question : List ℕ) (q : ReadingState) (e : reading question ≡ accepted q) (t : Tree) (is : treeOf (q .entries) ≡ some t) where
   abbrev left : Tree
   left = treeAfter t (q .lifts)
 
@@ -156,24 +156,29 @@ module _ (question : List ℕ) (q : ReadingState) (e : reading question ≡ acce
       }
 
   -- 2. "The tree that our own gathering returns, typed as tree lines, is always marked right."
-  pub own-tree-right : (nodes holder : ℕ) → Gathers (postfix (treeAfter t (q .lifts))) (q .marks) out out′ (Done nodes holder)
+  pub own-tree-right : (out out′ : List ℕ) (nodes holder : ℕ) → Gathers (postfix (treeAfter t (q .lifts))) (q .marks) out out′ (Done nodes holder)
       → (u : Tree) → treeOf (take nodes out′) ≡ some u → (r : Marking) → Marks question (typed u) r → markingSays r ≡ mark 0
   unfolding GathersTree
-  own-tree-right nodes holder G u own r M =
+  own-tree-right out out′ nodes holder G u own r M =
       let R : GatheredTo left (q .marks) out out′ nodes holder = G .gathers (done-faultless G) left left-is in
       let front : take nodes out′ ≡ postfix (R .result) = ap (take nodes) (R .written) ∙ take-over (postfix (R .result)) out nodes (R .counted ∙ sym (postfix-length (R .result))) in
       let same : R .result ≡ u = same-tree (ap treeOf front ∙ tree-of-postfix (R .result) (R .most)) own in
       right-exactly question (typed u) r M .always (subst (λ (x : Tree). RightDrawing question (typed x)) same (right-typed (R .result) holder (R .equivalent) (R .gathered) (R .own) (R .most)))
 
-  -- 3. "For a question answered 19 no drawing is ever right."
-  pub never-right : Gathers (postfix (treeAfter t (q .lifts))) (q .marks) out out′ (Refused 19)
-      → (candidate : List ℕ) (r : Marking) → Marks question candidate r → markingSays r ≡ mark 0 → ⊥
-  unfolding GathersTree
-  never-right G candidate r M s =
-      let clear = cannot-faultless G in
-      let C : CannotBeGathered (isIn (q .marks)) left = G .gathers clear left left-is .2 in
+  -- 3. "For a question answered 19 no drawing is ever right.": where no tree is gathered that is equivalent to the tree as written
+  pub cannot-be-right : CannotBeGathered (isIn (q .marks)) t → 1 ≤ length (q .marks) → (candidate : List ℕ) (r : Marking) → Marks question candidate r → markingSays r ≡ mark 0 → ⊥
+  cannot-be-right C some-mark candidate r M s =
       let R = right-exactly question candidate r M .only s in
       let state = same-state (R .questionRead) e in
       let tree : R .tree ≡ t = same-tree (R .treeIs) (rw state is) in
-      let held = gathered-some (q .marks) (R .drawing) (faultless _ _ _ clear .some-mark) (rw state at (R .gathered)) in
-      C .never (R .drawing) (held .0) (equivalent-trans (K .equivalent) (rw tree at (R .equivalent))) (held .1)
+      let held = gathered-some (q .marks) (R .drawing) some-mark (rw state at (R .gathered)) in
+      C .never (R .drawing) (held .0) (rw tree at (R .equivalent)) (held .1)
+
+  -- so where our gathering of the tree that the lifts leave is refused with 19
+  pub never-right : (out out′ : List ℕ) → Gathers (postfix (treeAfter t (q .lifts))) (q .marks) out out′ (Refused 19)
+      → (candidate : List ℕ) (r : Marking) → Marks question candidate r → markingSays r ≡ mark 0 → ⊥
+  unfolding GathersTree
+  never-right out out′ G =
+      let clear = cannot-faultless G in
+      let C : CannotBeGathered (isIn (q .marks)) left = G .gathers clear left left-is .2 in
+      cannot-be-right (record { never = λ u p f g. C .never u p (equivalent-trans (K .equivalent) f) g }) (faultless _ _ _ clear .some-mark)
