@@ -257,10 +257,10 @@ fn main() -> ExitCode {
     let random = || Random::new(8);
     println!("{:<NAME_WIDTH$} {:>14} {:>14} {:>7}", "medians", "verified", "reference", "ratio");
     bench_keys(Path::new(key_program), &this.with_file_name("reference_key"), &mut random());
-    bench_marks::bench_marks(Path::new(mark_program), &this.with_file_name("reference_mark"), &mut random());
     bench_lifts(&mut random());
     bench_gather(&mut random());
     bench_code(&mut random());
     bench_large_groups(&mut random());
+    bench_marks::bench_marks(Path::new(mark_program), &this.with_file_name("reference_mark"), &mut random());
     ExitCode::SUCCESS
 }
