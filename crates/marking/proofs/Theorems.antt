@@ -1,5 +1,6 @@
 -- Request 5's theorems on the mark.
 use mathlib.Core.Path.{_≡_, refl, sym, ap, subst, _∙_}
+use mathlib.Core.Logic.{_⊎_, inl, inr}
 use mathlib.Core.List.{List, []}
 use mathlib.Core.Option.{Option, some}
 use Prim.Native.Nat.{ℕ, zero, suc, _≤_}
@@ -27,8 +28,9 @@ use Rattle.gather.proofs.WholeLaws.{faultless}
 use Rattle.lift.proofs.LiftLaws.{Keeps}
 use Rattle.lift_lines.specs.Lifting.{treeAfter}
 use Rattle.lift_lines.proofs.LiftingLaws.{after-keeps}
-use Rattle.marking.specs.Marking.{mark, no, markingSays, foreignLine, GatheredFor, MarksRead, MarksBy, Marks}
+use Rattle.marking.specs.Marking.{mark, no, markingSays, foreignLine, GatheredFor, MarksTree, MarksRead, MarksBy, Marks}
 use Rattle.marking.specs.declared.Marking.{Marking}
+use Rattle.marking.specs.declared.Marking.the-variants.{Right, OtherLamps, NotGathered, QuestionRefused, CandidateRefused}
 use Rattle.marking.proofs.ForeignLaws.{foreign-lines, foreign-none}
 use Rattle.marking.proofs.MarkLaws.{gathered-some, gathered-for, gathered-none}
 
@@ -63,6 +65,14 @@ mark-given question candidate r m M s = go (reading question) refl (readWith can
     go (refused number line) e p f k = no-mark (sym k ∙ s)
     go (accepted q) e (refused number line) f k = no-mark (sym k ∙ s)
     go (accepted q) e (accepted c) f k = both q c e f _ refl k
+
+-- ---- trees get one of the three marks, and never a refusal
+pub one-of-three : {t u : Tree} {marks : List ℕ} (r : Marking) → MarksTree t marks u r → (markingSays r ≡ mark 0) ⊎ ((markingSays r ≡ mark 1) ⊎ (markingSays r ≡ mark 2))
+one-of-three Right M = inl refl
+one-of-three OtherLamps M = inr (inl refl)
+one-of-three NotGathered M = inr (inr refl)
+one-of-three (QuestionRefused number line) M = no-mark (M .otherLamps .always (λ e. no-mark (M .notGathered .always (e, λ g. no-mark (M .right .always (e, g))))))
+one-of-three (CandidateRefused number line) M = no-mark (M .otherLamps .always (λ e. no-mark (M .notGathered .always (e, λ g. no-mark (M .right .always (e, g))))))
 
 -- ---- 1. "It says right exactly when the candidate's tree is equivalent and gathered."
 -- both files are accepted, the drawing is over the question's groups, equivalent to its tree and gathered for its marks, if it has any
