@@ -145,7 +145,7 @@ module _ (question : List ℕ) (q : ReadingState) (e : reading question ≡ acce
   left-is = tree-of-postfix left (K .most)
 
   -- a tree over the groups of `left` that is equivalent to it and gathered is right
-  right-typed : (u : Tree) (p : ℕ) → Equivalent left u → Gathered (isIn (q .marks)) u p → Over (isIn (groups left)) u → size u ≤ mostNodes → RightDrawing question (typed u)
+  pub right-typed : (u : Tree) (p : ℕ) → Equivalent left u → Gathered (isIn (q .marks)) u p → Over (isIn (groups left)) u → size u ≤ mostNodes → RightDrawing question (typed u)
   right-typed u p equivalent gathered own most =
       let known : q .groups ≡ groups t = A .known ∙ ap groups as-written in
       let few : length (groups t) ≤ mostGroups = rw as-written at (A .different) in
