@@ -9,7 +9,7 @@ use borrow.Author.Tests.{eq-eqb, ne-eqb}
 use lib.Dec.{T}
 use lib.ListN.{length, length-append}
 use Rattle.tree.specs.Tree.{Operator, union, difference, Tree, leaf, node, isGroup, size, Rig, apply, selects, selected, Over}
-use Rattle.player.specs.Instructions.{Lamps, Registers, Instruction, load, add, cut, run, numbersOf}
+use Rattle.player.specs.Instructions.{Lamps, Registers, combined, Instruction, load, operate, run, numbersOf}
 use Rattle.player.proofs.InstructionLaws.{run-append, numbers-length}
 use Rattle.code.specs.Need.{leftFirst, inOrder}
 use Rattle.code.proofs.NeedLaws.{first, second, in-order-node, in-order-by, mostWaiting, waiting-node, waiting-need, need-positive}
@@ -59,16 +59,20 @@ pub record Leaves (rig : Rig) (t : Tree) (k : ℕ) (is : List Instruction) : Typ
   pub target : (R : Registers) → run rig is R k ≡ selected rig t
   pub below : (R : Registers) (q : ℕ) → q < k → run rig is R q ≡ R q
 
-module _ (rig : Rig) where
-  operation-target : (o : Operator) (R : Registers) (k a b : ℕ) (f g : Lamps) → R a ≡ f → R b ≡ g → run rig (operation o k a b ∷ []) R k ≡ (λ lamp. apply o (f lamp) (g lamp))
-  unfolding run
-  operation-target union R k a b f g x y = rw (eq-eqb k k refl, x, y)
-  operation-target difference R k a b f g x y = rw (eq-eqb k k refl, x, y)
+-- what an operator's operation makes of two sets is what the operator selects of them
+operation-applies : (o : Operator) (f g : Lamps) → combined (operation o) f g ≡ (λ lamp. apply o (f lamp) (g lamp))
+operation-applies union f g = refl
+operation-applies difference f g = refl
 
-  operation-below : (o : Operator) (R : Registers) (k a b q : ℕ) → q < k → run rig (operation o k a b ∷ []) R q ≡ R q
+module _ (rig : Rig) where
+  operation-target : (o : Operator) (R : Registers) (k a b : ℕ) (f g : Lamps) → R a ≡ f → R b ≡ g
+      → run rig (operate (operation o) k a b ∷ []) R k ≡ (λ lamp. apply o (f lamp) (g lamp))
   unfolding run
-  operation-below union R k a b q h = rw (ne-eqb q k (λ e. omega arith))
-  operation-below difference R k a b q h = rw (ne-eqb q k (λ e. omega arith))
+  operation-target o R k a b f g x y = rw (eq-eqb k k refl, x, y) (operation-applies o f g)
+
+  operation-below : (o : Operator) (R : Registers) (k a b q : ℕ) → q < k → run rig (operate (operation o) k a b ∷ []) R q ≡ R q
+  unfolding run
+  operation-below o R k a b q h = rw (ne-eqb q k (λ e. omega arith))
 
   left-operand : (f : Bool) (l r : Tree) (R : Registers) (k : ℕ) → R k ≡ selected rig (cond f l r) → R (k + 1) ≡ selected rig (cond f r l) → R (cond f k (k + 1)) ≡ selected rig l
   left-operand true l r R k p q = p
@@ -120,13 +124,7 @@ module _ (low low′ high high′ : ℕ) (p : low ≤ low′) (q : high′ ≤ h
 
   pub wider : (i : Instruction) → Names low′ high′ i → Names low high i
   wider (load t g) h = wider-one t h
-  wider (add t a b) h = (wider-one t (h .0), wider-one a (h .1), wider-one b (h .2))
-  wider (cut t a b) h = (wider-one t (h .0), wider-one a (h .1), wider-one b (h .2))
-
-operation-names : (o : Operator) (low high k a b : ℕ) → Within low high k → Within low high a → Within low high b → Every (Names low high) (operation o k a b ∷ [])
-unfolding Every
-operation-names union low high k a b p q r = ((p, q, r), tt)
-operation-names difference low high k a b p q r = ((p, q, r), tt)
+  wider (operate o t a b) h = (wider-one t (h .0), wider-one a (h .1), wider-one b (h .2))
 
 within-cond : (f : Bool) (low high a b : ℕ) → Within low high a → Within low high b → Within low high (cond f a b)
 within-cond true low high a b p q = p
@@ -143,15 +141,10 @@ names-waiting =
     let here : Within k N k = record { from = omega arith; below = omega arith } in
     let next : Within k N (k + 1) = record { from = omega arith; below = n₁ } in
     every-append (Names k N) x _ (every-implies (wider k k N (mostWaiting k (first l r)) (omega arith) (omega arith)) x p)
-    (every-append (Names k N) y _ (every-implies (wider k (k + 1) N (mostWaiting (k + 1) (second l r)) (omega arith) (omega arith)) y q)
-    (operation-names o k N k _ _ here (within-cond (leftFirst l r) k N k (k + 1) here next) (within-cond (leftFirst l r) k N (k + 1) k next here))))
+    (every-append (Names k N) y (combine k o (leftFirst l r) ∷ []) (every-implies (wider k (k + 1) N (mostWaiting (k + 1) (second l r)) (omega arith) (omega arith)) y q)
+    (unfold Every in ((here, within-cond (leftFirst l r) k N k (k + 1) here next, within-cond (leftFirst l r) k N (k + 1) k next here), tt))))
 
 -- ---- the groups that are loaded
-operation-loads : (m : ℕ → Bool) (o : Operator) (k a b : ℕ) → Every (Loads m) (operation o k a b ∷ [])
-unfolding Every
-operation-loads m union k a b = (tt, tt)
-operation-loads m difference k a b = (tt, tt)
-
 over-cond : (m : ℕ → Bool) (f : Bool) (l r : Tree) → Over m l → Over m r → Over m (cond f l r)
 over-cond m true l r p q = p
 over-cond m false l r p q = q
@@ -160,6 +153,6 @@ pub loads : (m : ℕ → Bool) (t : Tree) (k : ℕ) → Over m t → Every (Load
 loads m =
     code-by (λ k t is. Over m t → Every (Loads m) is)
     (λ k g h o. unfold Every Over in (o, tt))
-    (λ k o l r x y p q h. unfold Over in
+    (λ k o l r x y p q h. unfold Over Every in
     every-append (Loads m) x _ (p (over-cond m (leftFirst l r) l r (h .0) (h .1)))
-    (every-append (Loads m) y _ (q (over-cond m (leftFirst l r) r l (h .1) (h .0))) (operation-loads m o k _ _)))
+    (every-append (Loads m) y _ (q (over-cond m (leftFirst l r) r l (h .1) (h .0))) (tt, tt)))

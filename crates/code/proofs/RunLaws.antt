@@ -8,27 +8,18 @@ use native.Mathlib.Omega.{arith}
 use borrow.Author.Tests.{eq-eqb, ne-eqb, eqb-true, eqb-false}
 use lib.Dec.{eqb}
 use lib.ListN.{length, length-append}
-use Rattle.tree.specs.Tree.{Operator, union, difference, Tree, node, size}
+use Rattle.tree.specs.Tree.{Operator, Tree, node, size}
 use Rattle.tree.specs.Context.{Side, left, right, Frame, frame, sided, plug, OverAbove}
 use Rattle.tree.proofs.TreeLaws.{or-right}
-use Rattle.player.specs.Instructions.{Instruction, load, add, cut}
+use Rattle.player.specs.Instructions.{Instruction, load, operate}
 use Rattle.code.specs.Need.{leftFirst}
-use Rattle.code.specs.Code.{operation, combine, code, CodePlace, placeOfFirst, placeOfSecond, placeOfChild, codePlace}
+use Rattle.code.specs.Code.{combine, code, CodePlace, placeOfFirst, placeOfSecond, placeOfChild, codePlace}
 use Rattle.code.specs.Effects.{Every, Names, Loads, writes, reads, Closed, writtenAfter, readFirst}
 use Rattle.code.proofs.CodeLaws.{code-node, code-by, length-code, every-append, loads}
 
--- ---- what an operator's instruction reads and writes
-operation-writes : (o : Operator) (k a b q : ℕ) → writes (operation o k a b) q ≡ eqb q k
-operation-writes union k a b q = refl
-operation-writes difference k a b q = refl
-
-operation-reads : (o : Operator) (k a b q : ℕ) → reads (operation o k a b) q ≡ (eqb q a || eqb q b)
-operation-reads union k a b q = refl
-operation-reads difference k a b q = refl
-
--- it reads the targets of its node's two children
+-- ---- an operator's instruction reads the targets of its node's two children
 combine-reads : (k : ℕ) (o : Operator) (f : Bool) (W : ℕ → Bool) → W k ≡ true → W (k + 1) ≡ true → (q : ℕ) → reads (combine k o f) q ≡ true → W q ≡ true
-combine-reads k o f W p n q h = go f (eqb q k) (eqb q (k + 1)) refl refl (sym (operation-reads o k _ _ q) ∙ h)
+combine-reads k o f W p n q h = go f (eqb q k) (eqb q (k + 1)) refl refl h
   where
     go : (f x y : Bool) → eqb q k ≡ x → eqb q (k + 1) ≡ y → (eqb q (cond f k (k + 1)) || eqb q (cond f (k + 1) k)) ≡ true → W q ≡ true
     go f true y e g h = rw (eqb-true q k e) p
@@ -63,7 +54,7 @@ closed-node k o f x y p q = record {
       closed-append W x (y ++ (combine k o f ∷ [])) (p .closed W)
       (closed-append (writtenAfter W x) y (combine k o f ∷ []) (q .closed (writtenAfter W x))
       (combine-reads k o f (writtenAfter (writtenAfter W x) y) (written-more (writtenAfter W x) y k (p .written W)) (q .written (writtenAfter W x)), tt));
-  written = λ W. rw (written-append W x (y ++ (combine k o f ∷ [])), written-append (writtenAfter W x) y (combine k o f ∷ []), operation-writes o k, eq-eqb k k refl);
+  written = λ W. rw (written-append W x (y ++ (combine k o f ∷ [])), written-append (writtenAfter W x) y (combine k o f ∷ []), eq-eqb k k refl);
 }
 
 pub closed-code : (t : Tree) (k : ℕ) → ClosedCode k (code t k)
@@ -77,8 +68,7 @@ pub low-written : (low high q : ℕ) (W : ℕ → Bool) (is : List Instruction) 
 unfolding Every writtenAfter
 low-written low high q W [] h e = refl
 low-written low high q W (load t g ∷ is) h e = low-written low high q (λ q. eqb q t || W q) is h (e .1) ∙ rw (ne-eqb q t (λ z. omega (arith, e .0 .from)))
-low-written low high q W (add t a b ∷ is) h e = low-written low high q (λ q. eqb q t || W q) is h (e .1) ∙ rw (ne-eqb q t (λ z. omega (arith, e .0 .0 .from)))
-low-written low high q W (cut t a b ∷ is) h e = low-written low high q (λ q. eqb q t || W q) is h (e .1) ∙ rw (ne-eqb q t (λ z. omega (arith, e .0 .0 .from)))
+low-written low high q W (operate o t a b ∷ is) h e = low-written low high q (λ q. eqb q t || W q) is h (e .1) ∙ rw (ne-eqb q t (λ z. omega (arith, e .0 .0 .from)))
 
 -- ---- a tree's code reads no register from its target on before it writes it; `behind` is what comes after the code
 pub record WritesFirst (k : ℕ) (is : List Instruction) : Type 0 where
@@ -87,7 +77,7 @@ pub record WritesFirst (k : ℕ) (is : List Instruction) : Type 0 where
 
 combine-unread : (k : ℕ) (o : Operator) (f : Bool) (q : ℕ) (behind : List Instruction) → k + 1 < q → readFirst q behind ≡ false → readFirst q (combine k o f ∷ behind) ≡ false
 unfolding readFirst
-combine-unread k o f q behind h s = rw (operation-reads o k, operation-writes o k, ne-eqb q k (λ e. omega arith)) (go f)
+combine-unread k o f q behind h s = rw (ne-eqb q k (λ e. omega arith)) (go f)
   where
     go : (f : Bool) → ((eqb q (cond f k (k + 1)) || eqb q (cond f (k + 1) k)) || readFirst q behind) ≡ false
     go true = rw (ne-eqb q k (λ e. omega arith), ne-eqb q (k + 1) (λ e. omega arith)) s
@@ -169,25 +159,20 @@ pub record LoadsAround (m : ℕ → Bool) (P : CodePlace) : Type 0 where
   pub before : Every (Loads m) (P .before)
   pub behind : Every (Loads m) (P .behind)
 
-combine-loads : (m : ℕ → Bool) (o : Operator) (k a b : ℕ) (is : List Instruction) → Every (Loads m) is → Every (Loads m) (operation o k a b ∷ is)
-unfolding Every
-combine-loads m union k a b is p = (tt, p)
-combine-loads m difference k a b is p = (tt, p)
-
 pub loads-around : (m : ℕ → Bool) (h : Tree) (c : List Frame) (r : ℕ) → OverAbove m c → LoadsAround m (codePlace h c r)
-unfolding codePlace OverAbove
-loads-around m h [] r p = unfold Every in record { before = tt; behind = tt }
+unfolding codePlace OverAbove Every
+loads-around m h [] r p = record { before = tt; behind = tt }
 loads-around m h (frame s o b ∷ c) r p =
     let Q : CodePlace = codePlace (sided s (node o) h b) c r in
     let u : LoadsAround m Q = loads-around m (sided s (node o) h b) c r (p .1) in
     child-by (LoadsAround m) s o h b Q
     (λ f e. record {
       before = u .before;
-      behind = every-append (Loads m) (code b (Q .target + 1)) _ (loads m b (Q .target + 1) (p .0)) (combine-loads m o (Q .target) _ _ (Q .behind) (u .behind));
+      behind = every-append (Loads m) (code b (Q .target + 1)) _ (loads m b (Q .target + 1) (p .0)) (tt, u .behind);
     })
     (λ f e. record {
       before = every-append (Loads m) (Q .before) _ (u .before) (loads m b (Q .target) (p .0));
-      behind = combine-loads m o (Q .target) _ _ (Q .behind) (u .behind);
+      behind = (tt, u .behind);
     })
 
 -- how many instructions stand before a child's code, more than before its parent's

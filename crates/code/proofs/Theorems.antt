@@ -14,7 +14,7 @@ use Rattle.tree.specs.Context.{Frame, plug, OverAbove}
 use Rattle.tree.proofs.TreeLaws.{size-positive, group-least, group-most}
 use Rattle.tree.proofs.GroupLaws.{over-is-group}
 use Rattle.player.specs.Limits.{registerCount, byteCount}
-use Rattle.player.specs.Instructions.{Registers, Instruction, load, add, cut, run, litLamps, instructions}
+use Rattle.player.specs.Instructions.{Registers, Instruction, load, operate, run, litLamps, instructions}
 use Rattle.player.proofs.InstructionLaws.{AllWellFormed, instructions-numbers}
 use Rattle.player.proofs.PlayingLaws.{numbers-fault, plays-done}
 use Rattle.player.specs.Patches.{rig}
@@ -51,8 +51,7 @@ well-formed-all : (is : List Instruction) → Every (Names 0 registerCount) is �
 unfolding Every AllWellFormed
 well-formed-all [] p q = tt
 well-formed-all (load k g ∷ is) p q = ((p .0 .below, group-least g (rw (q .0) tt), group-most g (rw (q .0) tt)), well-formed-all is (p .1) (q .1))
-well-formed-all (add k a b ∷ is) p q = ((p .0 .0 .below, p .0 .1 .below, p .0 .2 .below), well-formed-all is (p .1) (q .1))
-well-formed-all (cut k a b ∷ is) p q = ((p .0 .0 .below, p .0 .1 .below, p .0 .2 .below), well-formed-all is (p .1) (q .1))
+well-formed-all (operate o k a b ∷ is) p q = ((p .0 .0 .below, p .0 .1 .below, p .0 .2 .below), well-formed-all is (p .1) (q .1))
 
 pub code-well-formed : (t : Tree) → size t ≤ mostNodes → AllWellFormed (code t 0)
 code-well-formed t h = well-formed-all (code t 0) (thirteen-suffice t h) (loads isGroup t 0 (over-is-group t))

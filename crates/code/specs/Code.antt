@@ -5,18 +5,18 @@ use Prim.Native.Nat.{ℕ, _+_}
 use lib.ListN.{length}
 use Rattle.tree.specs.Tree.{Operator, union, difference, Tree, node}
 use Rattle.tree.specs.Context.{Side, left, right, Frame, frame, sided}
-use Rattle.player.specs.Instructions.{Instruction, load, add, cut}
+use Rattle.player.specs.Instructions.{Operation, add, cut, Instruction, load, operate}
 use Rattle.code.specs.Need.{leftFirst, inOrder}
 
 -- "ADD (2) target, s, t: union of registers s and t. CUT (3) target, s, t: s without t"
-abbrev pub operation : Operator → ℕ → ℕ → ℕ → Instruction
+abbrev pub operation : Operator → Operation
 operation union = add
 operation difference = cut
 
 -- "then ADD or CUT with target r, left operand's register, right operand's": r of the first child, r+1 of the second;
 -- f says whether the left child came first
 abbrev pub combine : ℕ → Operator → Bool → Instruction
-combine r o f = operation o r (cond f r (r + 1)) (cond f (r + 1) r)
+combine r o f = operate (operation o) r (cond f r (r + 1)) (cond f (r + 1) r)
 
 -- "Code for a node with target r: the child of larger need first, left on a tie, with target r; the other with target r+1"
 unfoldable pub code : Tree → ℕ → List Instruction

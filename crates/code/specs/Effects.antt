@@ -5,7 +5,7 @@ use mathlib.Core.List.{List, [], _∷_}
 use Prim.Native.Nat.{ℕ, _+_, _-_, _≤_, _<_}
 use lib.Dec.{eqb}
 use lib.ListN.{length, take, drop}
-use Rattle.player.specs.Instructions.{Instruction, load, add, cut}
+use Rattle.player.specs.Instructions.{Instruction, load, operate}
 
 -- every instruction of a list has the property P
 unfoldable pub Every : (Instruction → Type 0) → List Instruction → Type 0
@@ -20,26 +20,22 @@ pub record Within (low high register : ℕ) : Type 0 where
 -- an instruction names its target and, but for a LOAD, the two that it reads
 abbrev pub Names : ℕ → ℕ → Instruction → Type 0
 Names low high (load target group) = Within low high target
-Names low high (add target s t) = Within low high target × Within low high s × Within low high t
-Names low high (cut target s t) = Within low high target × Within low high s × Within low high t
+Names low high (operate o target s t) = Within low high target × Within low high s × Within low high t
 
 -- if an instruction is a LOAD, its group passes the test m
 abbrev pub Loads : (ℕ → Bool) → Instruction → Type 0
 Loads m (load target group) = m group ≡ true
-Loads m (add target s t) = Unit {0}
-Loads m (cut target s t) = Unit {0}
+Loads m (operate o target s t) = Unit {0}
 
 -- whether an instruction writes, and whether it reads, register q
 abbrev pub writes : Instruction → ℕ → Bool
 writes (load target group) q = eqb q target
-writes (add target s t) q = eqb q target
-writes (cut target s t) q = eqb q target
+writes (operate o target s t) q = eqb q target
 
 -- whether it reads register q: a LOAD reads none
 abbrev pub reads : Instruction → ℕ → Bool
 reads (load target group) q = false
-reads (add target s t) q = eqb q s || eqb q t
-reads (cut target s t) q = eqb q s || eqb q t
+reads (operate o target s t) q = eqb q s || eqb q t
 
 -- "it reads only registers that it has itself written before": written says which were, before the list
 unfoldable pub Closed : (ℕ → Bool) → List Instruction → Type 0

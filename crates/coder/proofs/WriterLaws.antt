@@ -12,11 +12,11 @@ use Rattle.tree.proofs.TreeLaws.{size-positive, group-most}
 use Rattle.tree.proofs.PartLaws.{part-leaf, part-node}
 use Rattle.tree.proofs.WritingLaws.{wrote-then, wrote-as}
 use Rattle.player.specs.Limits.{registerCount}
-use Rattle.player.specs.Instructions.{loadKind, addKind, cutKind, numbersOf}
+use Rattle.player.specs.Instructions.{add, cut, loadKind, kindOf, numbersOf}
 use Rattle.player.proofs.InstructionLaws.{numbers-append}
 use Rattle.code.specs.Need.{need, leftFirst}
 use Rattle.code.proofs.NeedLaws.{first, second, need-node, need-positive}
-use Rattle.coder.specs.InnerNotes.{operationKind, NodeAt, middle, leftIsFirst, HasChildren, ChildrenInOrder, Writable}
+use Rattle.coder.specs.InnerNotes.{NodeAt, middle, leftIsFirst, HasChildren, ChildrenInOrder, Writable}
 use Rattle.code.specs.Code.{operation, code}
 use Rattle.code.proofs.CodeLaws.{code-leaf, code-node, size-node, length-numbers}
 use Rattle.coder.proofs.NoteLaws.{as-leaf, node-inside, Split, split}
@@ -29,25 +29,21 @@ wrote-four out at a b c d =
     record { list = rw (one, two, three); ends = refl; same = simp length-set }
 
 -- ---- the numbers of a tree's code
-operation-numbers : (o : Operator) (k a b : ℕ) → numbersOf (operation o k a b ∷ []) ≡ operationKind o ∷ k ∷ a ∷ b ∷ []
-unfolding numbersOf
-operation-numbers union k a b = refl
-operation-numbers difference k a b = refl
-
 numbers-leaf : (g : ℕ) (h : T (isGroup g)) (k : ℕ) → numbersOf (code (leaf g h) k) ≡ loadKind ∷ k ∷ g ∷ 0 ∷ []
 unfolding numbersOf
 numbers-leaf g h k = ap numbersOf (code-leaf g h k)
 
 numbers-node : (o : Operator) (l r : Tree) (k a b : ℕ) → a ≡ cond (leftFirst l r) k (k + 1) → b ≡ cond (leftFirst l r) (k + 1) k
-    → (numbersOf (code (first l r) k) ++ numbersOf (code (second l r) (k + 1))) ++ (operationKind o ∷ k ∷ a ∷ b ∷ []) ≡ numbersOf (code (node o l r) k)
+    → (numbersOf (code (first l r) k) ++ numbersOf (code (second l r) (k + 1))) ++ (kindOf (operation o) ∷ k ∷ a ∷ b ∷ []) ≡ numbersOf (code (node o l r) k)
+unfolding numbersOf
 numbers-node o l r k a b e f =
-    rw (code-node o l r k, numbers-append, numbers-append, operation-numbers, e, f) (simp append-assoc)
+    rw (code-node o l r k, numbers-append, numbers-append, e, f) (simp append-assoc)
 
-pub kind-union : (x : ℕ) → x ≡ sign union → (o : Operator) → x ≡ sign o → addKind ≡ operationKind o
+pub kind-union : (x : ℕ) → x ≡ sign union → (o : Operator) → x ≡ sign o → kindOf add ≡ kindOf (operation o)
 kind-union x e union h = refl
 kind-union x e difference h = absurd (omega arith)
 
-pub kind-difference : (x : ℕ) → (x ≡ sign union → ⊥) → (o : Operator) → x ≡ sign o → cutKind ≡ operationKind o
+pub kind-difference : (x : ℕ) → (x ≡ sign union → ⊥) → (o : Operator) → x ≡ sign o → kindOf cut ≡ kindOf (operation o)
 kind-difference x n union h = absurd (n h)
 kind-difference x n difference h = refl
 
@@ -145,7 +141,7 @@ module _ {l s n : List ℕ} {e k : ℕ} {out : List ℕ} {at : ℕ} (W : Writabl
 
     pub writes-node : {one two a b kind next last after : ℕ} {out₁ out₂ out₃ : List ℕ} → ChildrenInOrder s n e k one two a b
         → Writes l one k out at out₁ next → Writes l two (k + 1) out₁ next out₂ last
-        → ((o : Operator) → getD l e 0 ≡ sign o → kind ≡ operationKind o) → Wrote out₂ last out₃ after (kind ∷ k ∷ a ∷ b ∷ [])
+        → ((o : Operator) → getD l e 0 ≡ sign o → kind ≡ kindOf (operation o)) → Wrote out₂ last out₃ after (kind ∷ k ∷ a ∷ b ∷ [])
         → Writes l e k out at out₃ after
     writes-node O c d K p (leaf g h) v = absurd (omega (arith, part-leaf e (v .is), group-most g h))
     writes-node {one} {two} {a} {b} {kind} O c d K p (node o x y) v =

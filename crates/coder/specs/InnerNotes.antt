@@ -1,16 +1,15 @@
 -- How the code notes a tree's nodes, where each node's part begins and what it needs; what it finds by these notes, a node's
--- children and the way down to a node; and the kind of an operator's instruction. Only contracts of private functions cite it.
+-- children and the way down to a node. Only contracts of private functions cite it.
 use mathlib.Core.Path.{_≡_}
 use mathlib.Core.Bool.{Bool, cond}
 use mathlib.Core.List.{List}
 use Prim.Native.Nat.{ℕ, _+_, _-_, _*_, _≤_, _<_}
 use lib.Dec.{leb, ltb}
 use lib.ListN.{length, getD}
-use Rattle.tree.specs.Tree.{Operator, union, difference, Tree, size, mostNodes}
+use Rattle.tree.specs.Tree.{Tree, size, mostNodes}
 use Rattle.tree.specs.Context.{Frame}
 use Rattle.tree.specs.InnerPart.{Part}
 use Rattle.player.specs.Limits.{registerCount}
-use Rattle.player.specs.Instructions.{addKind, cutKind}
 use Rattle.code.specs.Need.{need}
 
 -- the list is a tree in which the node at the position `end` is the root of the part a
@@ -68,8 +67,3 @@ pub record Writable (list starts needs : List ℕ) (end target : ℕ) (out : Lis
   pub noted : Noted list starts needs
   pub registers : target + need part ≤ registerCount
   pub room : at + 4 * size part ≤ length out
-
--- ---- "ADD (2) .. union", "CUT (3) .. s without t": the kind of an operator's instruction
-abbrev pub operationKind : Operator → ℕ
-operationKind union = addKind
-operationKind difference = cutKind

@@ -12,10 +12,10 @@ ghost use Rattle.tree.specs.Tree.{Operator, Tree, sign, mostNodes};
 ghost use Rattle.tree.specs.Parse.{treeOf, isSome, locate};
 ghost use Rattle.tree.specs.InnerWriting.{Wrote};
 ghost use Rattle.player.specs.Limits.{registerCount};
-ghost use Rattle.player.specs.Instructions.{numbersOf};
+ghost use Rattle.player.specs.Instructions.{kindOf, numbersOf};
 ghost use Rattle.code.specs.Need.{needOf};
-ghost use Rattle.coder.specs.InnerNotes.{operationKind, NodeAt, Noted, HasChildren, ChildrenInOrder, StepsDown, Writable};
-ghost use Rattle.code.specs.Code.{code as codeOf, runFirst};
+ghost use Rattle.coder.specs.InnerNotes.{NodeAt, Noted, HasChildren, ChildrenInOrder, StepsDown, Writable};
+ghost use Rattle.code.specs.Code.{operation, code as codeOf, runFirst};
 ghost use Rattle.coder.specs.Coding.{Encodes, runOf};
 
 // Four numbers for each of 8,191 instructions.
@@ -130,7 +130,7 @@ fn put(out: &mut [u16], at: usize, kind: u16, target: u16, s: u16, t: u16) -> us
 
 // The kind of an operator's instruction.
 fn kind_of(x: u16) -> u16
-    ensures { λ r. ⌜ ((o : Operator) → x ≡ sign o → r ≡ operationKind o) ⌝ }
+    ensures { λ r. ⌜ ((o : Operator) → x ≡ sign o → r ≡ kindOf (operation o)) ⌝ }
 {
     if x == tree::UNION {
         player::ADD

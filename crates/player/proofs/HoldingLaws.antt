@@ -1,6 +1,6 @@
 -- Words that hold sets of lamps, at the start and after one entry is written, and what an instruction does to the registers.
 use mathlib.Core.Path.{_≡_, refl, sym, _∙_}
-use mathlib.Core.Bool.{Bool, true, false, cond}
+use mathlib.Core.Bool.{Bool, true, false}
 use mathlib.Core.List.{List, []}
 use Prim.Native.Nat.{ℕ, _+_, _*_, _<_}
 use native.Mathlib.Omega.{arith}
@@ -8,9 +8,9 @@ use borrow.Author.Tests.{eq-eqb, ne-eqb, eqb-true, eqb-false}
 use lib.Dec.{eqb}
 use lib.ListN.{length, getD, set, replicate, length-set, getD-replicate}
 use lib.Seq.{getD-set-same, getD-set-other}
-use Rattle.player.specs.Instructions.{Lamps, Rig, Registers, union, difference, put, empty, step, instruction, add, cut, loadKind, addKind}
+use Rattle.player.specs.Instructions.{Lamps, Rig, Registers, combined, put, empty, step, loadKind, operationWith, instruction}
 use Rattle.player.specs.Limits.{registerCount}
-use Rattle.player.specs.InnerWords.{wordWidth, wordCount, combined, HoldsSets, HoldsSet}
+use Rattle.player.specs.InnerWords.{wordWidth, wordCount, HoldsSets, HoldsSet}
 use Rattle.player.proofs.PackingLaws.{pack-off}
 
 -- ---- one entry written
@@ -52,9 +52,5 @@ pub step-load : (G : Rig) (R : Registers) (kind target s t : ℕ) → kind ≡ l
 step-load G R kind target s t e = rw (eq-eqb kind loadKind e)
 
 pub step-combined : (G : Rig) (R : Registers) (kind target s t : ℕ) → (kind ≡ loadKind → ⊥)
-    → put R target (combined kind (R s) (R t)) ≡ step G (instruction kind target s t) R
-step-combined G R kind target s t n = rw (ne-eqb kind loadKind n) (go (eqb kind addKind))
-  where
-    go : (b : Bool) → put R target (cond b (union (R s) (R t)) (difference (R s) (R t))) ≡ step G (cond b (add target s t) (cut target s t)) R
-    go true = refl
-    go false = refl
+    → put R target (combined (operationWith kind) (R s) (R t)) ≡ step G (instruction kind target s t) R
+step-combined G R kind target s t n = rw (ne-eqb kind loadKind n)

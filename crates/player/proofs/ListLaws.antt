@@ -9,7 +9,7 @@ use borrow.Author.Tests.{eq-eqb, ne-eqb, eqb-true, eqb-false}
 use lib.Dec.{eqb}
 use lib.ListN.{length, getD, drop}
 use Rattle.common.proofs.ListLaws.{two-at, four-at}
-use Rattle.player.specs.Instructions.{Rig, Registers, union, put, empty, step, run, instruction, instructions}
+use Rattle.player.specs.Instructions.{Rig, Registers, add, combined, put, empty, step, run, instruction, instructions}
 use Rattle.player.specs.Patches.{rig}
 use Rattle.player.specs.Playing.{wrongInstruction, wrongCode, wrongPair, wrongPatch}
 use Rattle.player.proofs.FaultLaws.{or-left, or-right}
@@ -54,10 +54,10 @@ run-end (a ∷ b ∷ c ∷ []) G R h = refl
 run-end (a ∷ b ∷ c ∷ d ∷ l) G R h = absurd (omega arith)
 
 -- ---- pairs
-pair-put : (S : Rig) (g n group lamp : ℕ) → put S g (union (eqb n) (S g)) group lamp ≡ ((eqb g group && eqb n lamp) || S group lamp)
+pair-put : (S : Rig) (g n group lamp : ℕ) → put S g (combined add (eqb n) (S g)) group lamp ≡ ((eqb g group && eqb n lamp) || S group lamp)
 pair-put S g n group lamp = go (eqb group g) refl
   where
-    go : (b : Bool) → eqb group g ≡ b → cond b (union (eqb n) (S g)) (S group) lamp ≡ ((eqb g group && eqb n lamp) || S group lamp)
+    go : (b : Bool) → eqb group g ≡ b → cond b (combined add (eqb n) (S g)) (S group) lamp ≡ ((eqb g group && eqb n lamp) || S group lamp)
     go true q = rw (eqb-true group g q, eq-eqb g g refl)
     go false q = rw (ne-eqb g group (λ e. eqb-false group g q (sym e)))
 
@@ -71,7 +71,7 @@ module _ (l : List ℕ) (i k : ℕ) (e : i + 2 ≡ k) (h : k ≤ length l) where
   patch-miss s = rw (two-at l i k e h, s)
 
   -- a pair puts its lamp into its group
-  pub rig-more : put (rig (drop k l)) (getD l i 0) (union (eqb (getD l (i + 1) 0)) (rig (drop k l) (getD l i 0))) ≡ rig (drop i l)
+  pub rig-more : put (rig (drop k l)) (getD l i 0) (combined add (eqb (getD l (i + 1) 0)) (rig (drop k l) (getD l i 0))) ≡ rig (drop i l)
   unfolding rig
   rig-more = fun-ext (λ group. fun-ext (λ lamp. rw (two-at l i k e h) (pair-put (rig (drop k l)) (getD l i 0) (getD l (i + 1) 0) group lamp)))
 

@@ -11,7 +11,7 @@ use lib.Pow.{pow-pos}
 use lib.Arith.{digits-div, digits-mod}
 use lib.Bits.{bitOr, bitAnd, or-step, and-step, or-zero-l, and-zero-l}
 use lib.ListN.{length, getD, set, take}
-use Rattle.player.specs.Instructions.{Lamps, union, difference}
+use Rattle.player.specs.Instructions.{Lamps, add, cut, combined}
 use Rattle.player.specs.Bytes.{bit, pack, bytesFrom}
 use Rattle.player.proofs.ByteLaws.{bit-small, pack-small, pack-part}
 use Rattle.player.specs.InnerWords.{HoldsSet}
@@ -45,7 +45,7 @@ bit-not : (x : Bool) → 1 - bit x ≡ bit (not x)
 bit-not true = refl
 bit-not false = refl
 
-pub pack-union : (f g : Lamps) (first count : ℕ) → bitOr (pack f first count) (pack g first count) ≡ pack (union f g) first count
+pub pack-union : (f g : Lamps) (first count : ℕ) → bitOr (pack f first count) (pack g first count) ≡ pack (combined add f g) first count
 pack-union = pack-by bitOr max _||_ or-step bit-or (or-zero-l 0)
 
 pack-complement : (f : Lamps) (first count : ℕ) → (2 ^ count - 1) - pack f first count ≡ pack (λ lamp. not (f lamp)) first count
@@ -55,7 +55,7 @@ pack-complement f first (suc count) =
     rw (pow-suc 2 count)
     (omega (arith, pack-complement f (suc first) count, bit-not (f first), bit-small (f first), pack-small f (suc first) count, pow-pos count))
 
-pub pack-difference : (f g : Lamps) (first count : ℕ) → bitAnd (pack f first count) ((2 ^ count - 1) - pack g first count) ≡ pack (difference f g) first count
+pub pack-difference : (f g : Lamps) (first count : ℕ) → bitAnd (pack f first count) ((2 ^ count - 1) - pack g first count) ≡ pack (combined cut f g) first count
 pack-difference f g first count =
     ap (λ (x : ℕ). bitAnd (pack f first count) x) (pack-complement g first count)
     ∙ pack-by bitAnd min _&&_ and-step bit-and (and-zero-l 0) f (λ lamp. not (g lamp)) first count
@@ -71,7 +71,7 @@ pack-off f first (suc count) off =
     rw (off first (omega arith) (omega arith), pack-off f (suc first) count (λ lamp a b. off lamp (omega arith) (omega arith)))
 
 -- .. so that they add nothing
-pub union-off : (f g : Lamps) (first count : ℕ) → Off f first count → pack g first count ≡ pack (union f g) first count
+pub union-off : (f g : Lamps) (first count : ℕ) → Off f first count → pack g first count ≡ pack (combined add f g) first count
 union-off f g first count off =
     sym (or-zero-l (pack g first count))
     ∙ ap (λ (x : ℕ). bitOr x (pack g first count)) (sym (pack-off f first count off))

@@ -10,13 +10,13 @@ use lib.Dec.{ltb}
 use lib.ListN.{length, getD, drop, List·getD-append}
 use Rattle.common.specs.Answer.{done}
 use Rattle.player.specs.Limits.{registerCount, lastGroup, lastLamp, byteCount, mostInstructions}
-use Rattle.player.specs.Instructions.{Lamps, Instruction, load, add, cut, litLamps, numbersOf, instructions}
+use Rattle.player.specs.Instructions.{Lamps, Instruction, load, operate, litLamps, numbersOf, instructions}
 use Rattle.player.specs.Patches.{rig}
 use Rattle.player.specs.Bytes.{bit, bytes}
 use Rattle.player.specs.Playing.{wrongLength, wrongCode, wrongPairCount, wrongPatch, playFault, bytesAfter, playedSays, Plays}
 use Rattle.player.specs.declared.Played.{Played}
 use Rattle.player.specs.declared.Played.the-variants.{Done, Refused}
-use Rattle.player.proofs.InstructionLaws.{AllWellFormed, numbers-length}
+use Rattle.player.proofs.InstructionLaws.{AllWellFormed, kind-not-load, kind-inside, numbers-length}
 use Rattle.player.proofs.ByteLaws.{bytes-length, byte-bit}
 
 -- ---- the faults of the numbers of instructions
@@ -26,10 +26,8 @@ unfolding AllWellFormed numbersOf wrongCode
 numbers-no-23 [] h = refl
 numbers-no-23 (load target group ∷ is) h =
     rw (lt-leb registerCount target (h .0 .0), le-ltb group 1 (h .0 .1), le-ltb lastGroup group (h .0 .2), numbers-no-23 is (h .1))
-numbers-no-23 (add target s t ∷ is) h =
-    rw (lt-leb registerCount target (h .0 .0), lt-leb registerCount s (h .0 .1), lt-leb registerCount t (h .0 .2), numbers-no-23 is (h .1))
-numbers-no-23 (cut target s t ∷ is) h =
-    rw (lt-leb registerCount target (h .0 .0), lt-leb registerCount s (h .0 .1), lt-leb registerCount t (h .0 .2), numbers-no-23 is (h .1))
+numbers-no-23 (operate o target s t ∷ is) h =
+    rw (kind-not-load o, kind-inside o, lt-leb registerCount target (h .0 .0), lt-leb registerCount s (h .0 .1), lt-leb registerCount t (h .0 .2), numbers-no-23 is (h .1))
 
 module _ (is : List Instruction) (some : 1 ≤ length is) (few : length is ≤ mostInstructions) where
   -- No fault 22 in the numbers of 1 to 8,191 instructions.

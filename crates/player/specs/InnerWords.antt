@@ -1,13 +1,12 @@
 -- How the code holds sets of lamps, 64 lamps to a word, and what it takes to carry out an instruction. Only contracts of private
 -- functions cite it.
 use mathlib.Core.Path.{_≡_}
-use mathlib.Core.Bool.{false, cond}
+use mathlib.Core.Bool.{false}
 use mathlib.Core.List.{List, []}
 use Prim.Native.Nat.{ℕ, _+_, _*_, _≤_, _<_}
-use lib.Dec.{eqb}
 use lib.ListN.{length, getD}
 use Rattle.player.specs.Limits.{registerCount, lastGroup, mostPairs}
-use Rattle.player.specs.Instructions.{Lamps, Rig, Registers, union, difference, empty, addKind}
+use Rattle.player.specs.Instructions.{Lamps, Rig, Registers, empty}
 use Rattle.player.specs.Bytes.{pack}
 use Rattle.player.specs.Playing.{wrongInstruction}
 
@@ -22,10 +21,6 @@ wordCount = 8
 -- The 64 lamps from `first` on, as a word.
 abbrev pub word : Lamps → ℕ → ℕ
 word f first = pack f first wordWidth
-
--- What an instruction that is no LOAD makes of two sets.
-abbrev pub combined : ℕ → Lamps → Lamps → Lamps
-combined kind f g = cond (eqb kind addKind) (union f g) (difference f g)
 
 -- A list is the eight words of a set, 64 lamps after 64 lamps from lamp 1 on.
 pub record HoldsSet (words : List ℕ) (set : Lamps) : Type 0 where

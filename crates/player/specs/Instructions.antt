@@ -16,19 +16,20 @@ Rig = ℕ → Lamps
 abbrev pub Registers : Type 0
 Registers = ℕ → Lamps
 
+-- what two sets of lamps are combined by: "ADD (2) target, s, t .. CUT (3) target, s, t"
+pub data Operation : Type 0 where
+  add : Operation
+  cut : Operation
+
 -- "LOAD (1) target, group, 0. ADD (2) target, s, t .. CUT (3) target, s, t"
 pub data Instruction : Type 0 where
   load : (target group : ℕ) → Instruction
-  add : (target s t : ℕ) → Instruction
-  cut : (target s t : ℕ) → Instruction
+  operate : Operation → (target s t : ℕ) → Instruction
 
--- "union of registers s and t"
-abbrev pub union : Lamps → Lamps → Lamps
-union f g lamp = f lamp || g lamp
-
--- "s without t"
-abbrev pub difference : Lamps → Lamps → Lamps
-difference f g lamp = f lamp && not (g lamp)
+-- "union of registers s and t"; "s without t"
+abbrev pub combined : Operation → Lamps → Lamps → Lamps
+combined add f g lamp = f lamp || g lamp
+combined cut f g lamp = f lamp && not (g lamp)
 
 -- Registers "empty at first".
 abbrev pub empty : Registers
@@ -41,8 +42,7 @@ put R target f register = cond (eqb register target) f (R register)
 -- What one instruction does.
 abbrev pub step : Rig → Instruction → Registers → Registers
 step rig (load target group) R = put R target (rig group)
-step rig (add target s t) R = put R target (union (R s) (R t))
-step rig (cut target s t) R = put R target (difference (R s) (R t))
+step rig (operate o target s t) R = put R target (combined o (R s) (R t))
 
 -- What a list of instructions does, the first one first.
 unfoldable pub run : Rig → List Instruction → Registers → Registers
@@ -53,30 +53,32 @@ run rig (i ∷ is) R = run rig is (step rig i R)
 abbrev pub litLamps : Rig → List Instruction → Lamps
 litLamps rig is = run rig is empty 0
 
--- "An instruction is four 16-bit numbers: kind, target, and two more"; "LOAD (1) .. ADD (2) .. CUT (3)"
+-- "An instruction is four 16-bit numbers: kind, target, and two more"; "LOAD (1)"
 abbrev pub loadKind : ℕ
 loadKind = 1
 
-abbrev pub addKind : ℕ
-addKind = 2
-
-abbrev pub cutKind : ℕ
-cutKind = 3
+-- "ADD (2) .. CUT (3)"
+abbrev pub kindOf : Operation → ℕ
+kindOf add = 2
+kindOf cut = 3
 
 -- "LOAD (1) target, group, 0. ADD (2) target, s, t .. CUT (3) target, s, t"
 abbrev pub numbers : Instruction → List ℕ
 numbers (load target group) = loadKind ∷ target ∷ group ∷ 0 ∷ []
-numbers (add target s t) = addKind ∷ target ∷ s ∷ t ∷ []
-numbers (cut target s t) = cutKind ∷ target ∷ s ∷ t ∷ []
+numbers (operate o target s t) = kindOf o ∷ target ∷ s ∷ t ∷ []
 
 -- The numbers of a list of instructions, one after the other.
 unfoldable pub numbersOf : List Instruction → List ℕ
 numbersOf [] = []
 numbersOf (i ∷ is) = numbers i ++ numbersOf is
 
--- The instruction that four numbers stand for; fault 23 leaves no kind but the three.
+-- The operation of a kind that is not LOAD's; fault 23 leaves no other kind.
+abbrev pub operationWith : ℕ → Operation
+operationWith kind = cond (eqb kind (kindOf add)) add cut
+
+-- The instruction that four numbers stand for; fault 23 leaves no other kind.
 abbrev pub instruction : ℕ → ℕ → ℕ → ℕ → Instruction
-instruction kind target s t = cond (eqb kind loadKind) (load target s) (cond (eqb kind addKind) (add target s t) (cut target s t))
+instruction kind target s t = cond (eqb kind loadKind) (load target s) (operate (operationWith kind) target s t)
 
 -- Numbers as a list of instructions; fault 22 leaves no rest.
 unfoldable pub instructions : List ℕ → List Instruction

@@ -7,7 +7,7 @@ use lib.Dec.{eqb, leb, ltb}
 use lib.ListN.{length, drop}
 use Rattle.common.specs.Answer.{Answer, done, refusedWith, answerBy}
 use Rattle.player.specs.Limits.{registerCount, lastGroup, lastLamp, byteCount, mostInstructions, mostPairs, outside}
-use Rattle.player.specs.Instructions.{litLamps, loadKind, addKind, cutKind, instructions}
+use Rattle.player.specs.Instructions.{litLamps, add, cut, loadKind, kindOf, instructions}
 use Rattle.player.specs.Patches.{rig}
 use Rattle.player.specs.Bytes.{bytes}
 use Rattle.player.specs.declared.Played.{Played}
@@ -23,7 +23,7 @@ wrongInstruction kind target s t =
     leb registerCount target
     || cond (eqb kind loadKind)
     (outside 1 lastGroup s || not (eqb t 0))
-    (outside addKind cutKind kind || (leb registerCount s || leb registerCount t))
+    (outside (kindOf add) (kindOf cut) kind || (leb registerCount s || leb registerCount t))
 
 -- some instruction of the code is such a one; its numbers go four by four
 unfoldable pub wrongCode : List ℕ → Bool

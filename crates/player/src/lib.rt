@@ -9,11 +9,11 @@ ghost use Prim.Native.Nat.{ℕ, _+_, _≤_, _<_};
 ghost use lib.Dec.{eqb};
 ghost use lib.ListN.{length, getD, drop};
 ghost use Rattle.player.specs.Limits.{registerCount, lastGroup, lastLamp, mostPairs, byteCount, outside};
-ghost use Rattle.player.specs.Instructions.{Lamps, Rig, Registers, union, empty, step, litLamps, instruction, instructions};
+ghost use Rattle.player.specs.Instructions.{Lamps, Rig, Registers, add, combined, empty, step, litLamps, operationWith, instruction, instructions};
 ghost use Rattle.player.specs.Patches.{rig};
 ghost use Rattle.player.specs.Bytes.{bytes};
 ghost use Rattle.player.specs.Playing.{wrongLength, wrongInstruction, wrongCode, wrongPairCount, wrongPair, wrongPatch, playFault, Plays};
-ghost use Rattle.player.specs.InnerWords.{word, combined, HoldsSet, HoldsSets, Indexed, HoldsGroups, Placed, Executable};
+ghost use Rattle.player.specs.InnerWords.{word, HoldsSet, HoldsSets, Indexed, HoldsGroups, Placed, Executable};
 
 // 01's limits: the registers, the last group (02's, request 4) and the last lamp, the bytes written, the instructions and the pairs.
 const REGISTERS: usize = 13;
@@ -82,14 +82,14 @@ fn numbers_at(code: &[u16], at: usize) -> Numbers
 
 // Of 64 lamps, the union of two sets for ADD, the first without the second for CUT.
 fn combine_words(kind: u16, x: u64, y: u64) -> u64
-    ensures { λ r. ⌜ ((f g : Lamps) (first : ℕ) → x ≡ word f first → y ≡ word g first → r ≡ word (combined kind f g) first) ⌝ }
+    ensures { λ r. ⌜ ((f g : Lamps) (first : ℕ) → x ≡ word f first → y ≡ word g first → r ≡ word (combined (operationWith kind) f g) first) ⌝ }
 {
     if kind == ADD { x | y } else { x & !y }
 }
 
 // The union of two sets for ADD, the first without the second for CUT.
 fn combine(kind: u16, x: [u64; WORDS], y: [u64; WORDS]) -> [u64; WORDS]
-    ensures { λ r. ⌜ ((f g : Lamps) → HoldsSet x f → HoldsSet y g → HoldsSet r (combined kind f g)) ⌝ }
+    ensures { λ r. ⌜ ((f g : Lamps) → HoldsSet x f → HoldsSet y g → HoldsSet r (combined (operationWith kind) f g)) ⌝ }
 {
     let mut words = [0u64; WORDS];
     let mut i = 0;
@@ -103,7 +103,7 @@ fn combine(kind: u16, x: [u64; WORDS], y: [u64; WORDS]) -> [u64; WORDS]
 // The set with `lamp` in it too.
 fn light(set: [u64; WORDS], lamp: usize) -> [u64; WORDS]
     requires { ⌜ (1 ≤ lamp) × (lamp ≤ lastLamp) ⌝ }
-    ensures { λ r. ⌜ ((f : Lamps) → HoldsSet set f → HoldsSet r (union (eqb lamp) f)) ⌝ }
+    ensures { λ r. ⌜ ((f : Lamps) → HoldsSet set f → HoldsSet r (combined add (eqb lamp) f)) ⌝ }
 {
     let mut lit = set;
     let i = (lamp - 1) / WIDTH;

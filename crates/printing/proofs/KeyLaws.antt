@@ -8,17 +8,21 @@ use lib.Dec.{eqb}
 use lib.ListN.{getD}
 use Rattle.tree.specs.Tree.{isIn}
 use Rattle.text.specs.Line.{Row}
-use Rattle.text.proofs.LineLaws.{AllPlain, lines-unique}
-use Rattle.player.specs.Instructions.{Instruction, load, add, cut}
-use Rattle.printing.specs.Key.{LiftAnswer, Held, unmarked, heldRun, cannot, Key, refusal, answers, liftRows, heldRows, instructionRows, rowsOf, text}
+use Rattle.text.proofs.LineLaws.{Plain, AllPlain, lines-unique}
+use Rattle.player.specs.Instructions.{Operation, add, cut, Instruction, load, operate}
+use Rattle.printing.specs.Key.{LiftAnswer, Held, unmarked, heldRun, cannot, Key, refusal, answers, liftRows, heldRows, wordOf, instructionRow, instructionRows, rowsOf, text}
 
 -- ---- no word of a key has a tab or an LF
+word-plain : (o : Operation) → Plain (wordOf o)
+unfolding isIn
+word-plain add = record { noTab = refl; noLineFeed = refl }
+word-plain cut = record { noTab = refl; noLineFeed = refl }
+
 instruction-plain : (is : List Instruction) → AllPlain (instructionRows is)
 unfolding AllPlain instructionRows isIn
 instruction-plain [] = tt
 instruction-plain (load a b ∷ is) = (record { noTab = refl; noLineFeed = refl }, instruction-plain is)
-instruction-plain (add a b c ∷ is) = (record { noTab = refl; noLineFeed = refl }, instruction-plain is)
-instruction-plain (cut a b c ∷ is) = (record { noTab = refl; noLineFeed = refl }, instruction-plain is)
+instruction-plain (operate o a b c ∷ is) = (word-plain o, instruction-plain is)
 
 held-plain : (h : Held) (is : List Instruction) → AllPlain (heldRows h ++ instructionRows is)
 unfolding AllPlain isIn
@@ -47,7 +51,7 @@ field r i = getD (r .numbers) i 0
 abbrev instructionOf : Row → Instruction
 instructionOf r =
     cond (eqb (letter r 1) 79) (load (field r 0) (field r 1))
-    (cond (eqb (letter r 0) 65) (add (field r 0) (field r 1) (field r 2)) (cut (field r 0) (field r 1) (field r 2)))
+    (operate (cond (eqb (letter r 0) 65) add cut) (field r 0) (field r 1) (field r 2))
 
 unfoldable instructionsOf : List Row → List Instruction
 instructionsOf [] = []
@@ -71,19 +75,22 @@ decode (r ∷ rs) =
     (cond (eqb (letter r 1) 69) (answers [] (heldOf r) (instructionsOf rs))
     (cond (eqb (letter r 0) 78) (refusal (field r 0) (field r 1)) (answers [] unmarked (instructionOf r ∷ instructionsOf rs))))
 
+instruction-back : (i : Instruction) → instructionOf (instructionRow i) ≡ i
+instruction-back (load a b) = refl
+instruction-back (operate add a b c) = refl
+instruction-back (operate cut a b c) = refl
+
 instructions-back : (is : List Instruction) → instructionsOf (instructionRows is) ≡ is
 unfolding instructionRows instructionsOf
 instructions-back [] = refl
-instructions-back (load a b ∷ is) = rw (instructions-back is)
-instructions-back (add a b c ∷ is) = rw (instructions-back is)
-instructions-back (cut a b c ∷ is) = rw (instructions-back is)
+instructions-back (i ∷ is) = rw (instruction-back i, instructions-back is)
 
 unmarked-back : (is : List Instruction) → decode (instructionRows is) ≡ answers [] unmarked is
 unfolding instructionRows decode
 unmarked-back [] = refl
 unmarked-back (load a b ∷ is) = rw (instructions-back is)
-unmarked-back (add a b c ∷ is) = rw (instructions-back is)
-unmarked-back (cut a b c ∷ is) = rw (instructions-back is)
+unmarked-back (operate add a b c ∷ is) = rw (instructions-back is)
+unmarked-back (operate cut a b c ∷ is) = rw (instructions-back is)
 
 lifts-back : (ls : List LiftAnswer) (h : Held) (is : List Instruction) → decode (liftRows ls ++ (heldRows h ++ instructionRows is)) ≡ answers ls h is
 unfolding liftRows decode

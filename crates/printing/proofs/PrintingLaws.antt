@@ -13,10 +13,10 @@ use Rattle.text.specs.Line.{line, lines}
 use Rattle.text.specs.Inner.{field, fieldsAfter}
 use Rattle.text.proofs.DecimalLaws.{digits-length}
 use Rattle.text.proofs.LineLaws.{line-length}
-use Rattle.player.specs.Instructions.{Instruction, load, add, cut, instruction, instructions}
+use Rattle.player.specs.Instructions.{Operation, add, cut, Instruction, load, operate, loadKind, kindOf, instruction, instructions}
 use Rattle.player.proofs.InstructionLaws.{WellFormed, AllWellFormed}
 use Rattle.common.proofs.ListLaws.{two-at}
-use Rattle.printing.specs.Key.{NO, LIFT, HELD, LOAD, ADD, CUT, instructionRow, instructionRows}
+use Rattle.printing.specs.Key.{NO, LIFT, HELD, LOAD, ADD, CUT, wordOf, instructionRow, instructionRows}
 use Rattle.printing.specs.Inner.{rowText}
 
 -- ---- a loop that writes a text piece by piece: so far the front of `whole` is written, and `rest` is what is left of it
@@ -46,14 +46,14 @@ up-to-end rest e w = wrote-as (w .wrote) (sym (append-nil (w .front)) ∙ ap (λ
 
 -- ---- the line of an instruction, by its kind
 module _ (kind target s t : ℕ) where
-  pub load-text : kind ≡ 1 → rowText (instructionRow (instruction kind target s t)) ≡ line LOAD (target ∷ s ∷ [])
-  load-text e = rw (eq-eqb kind 1 e)
+  pub load-text : kind ≡ loadKind → rowText (instructionRow (instruction kind target s t)) ≡ line LOAD (target ∷ s ∷ [])
+  load-text e = rw (eq-eqb kind loadKind e)
 
-  pub add-text : kind ≡ 2 → rowText (instructionRow (instruction kind target s t)) ≡ line ADD (target ∷ s ∷ t ∷ [])
+  pub add-text : kind ≡ kindOf add → rowText (instructionRow (instruction kind target s t)) ≡ line ADD (target ∷ s ∷ t ∷ [])
   add-text e = rw e
 
-  pub cut-text : (kind ≡ 1 → ⊥) → (kind ≡ 2 → ⊥) → rowText (instructionRow (instruction kind target s t)) ≡ line CUT (target ∷ s ∷ t ∷ [])
-  cut-text n m = rw (ne-eqb kind 1 n, ne-eqb kind 2 m)
+  pub cut-text : (kind ≡ loadKind → ⊥) → (kind ≡ kindOf add → ⊥) → rowText (instructionRow (instruction kind target s t)) ≡ line CUT (target ∷ s ∷ t ∷ [])
+  cut-text n m = rw (ne-eqb kind loadKind n, ne-eqb kind (kindOf add) m)
 
 -- ---- one instruction more of a code
 abbrev pub codeText : List ℕ → List ℕ
@@ -93,13 +93,15 @@ line-three word a b c =
     omega (arith, line-length word (a ∷ b ∷ c ∷ []), length-append (field a) (field b ++ (field c ++ [])), length-append (field b) (field c ++ []), length-append (field c) [])
 
 -- an instruction that the player takes: at most 14 bytes
+word-most : (o : Operation) → length (wordOf o) ≤ 4
+word-most add = omega arith
+word-most cut = omega arith
+
 pub instruction-most : (i : Instruction) → WellFormed i → length (rowText (instructionRow i)) ≤ 14
 instruction-most (load target group) w =
     omega (arith, line-two LOAD target group, digits-length 1 target (omega (arith, w .0)), digits-length 4 group (omega (arith, w .2)))
-instruction-most (add target s t) w =
-    omega (arith, line-three ADD target s t, digits-length 1 target (omega (arith, w .0)), digits-length 1 s (omega (arith, w .1)), digits-length 1 t (omega (arith, w .2)))
-instruction-most (cut target s t) w =
-    omega (arith, line-three CUT target s t, digits-length 1 target (omega (arith, w .0)), digits-length 1 s (omega (arith, w .1)), digits-length 1 t (omega (arith, w .2)))
+instruction-most (operate o target s t) w =
+    omega (arith, word-most o, line-three (wordOf o) target s t, digits-length 1 target (omega (arith, w .0)), digits-length 1 s (omega (arith, w .1)), digits-length 1 t (omega (arith, w .2)))
 
 pub code-most : (is : List Instruction) → AllWellFormed is → length (lines (instructionRows is)) ≤ 14 * length is
 unfolding lines instructionRows AllWellFormed

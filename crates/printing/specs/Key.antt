@@ -2,7 +2,7 @@
 use mathlib.Core.List.{List, [], _∷_, _++_}
 use Prim.Native.Nat.{ℕ}
 use Rattle.text.specs.Line.{Row, line, lines}
-use Rattle.player.specs.Instructions.{Instruction, load, add, cut}
+use Rattle.player.specs.Instructions.{Operation, add, cut, Instruction, load, operate}
 
 -- "per lift `LIFT` number position looks"
 pub record LiftAnswer : Type 0 where
@@ -59,11 +59,15 @@ heldRows unmarked = []
 heldRows (heldRun first count) = row HELD (0 ∷ first ∷ count ∷ []) ∷ []
 heldRows cannot = row HELD (19 ∷ []) ∷ []
 
+-- "a code line is .. `ADD` or `CUT`"
+abbrev pub wordOf : Operation → List ℕ
+wordOf add = ADD
+wordOf cut = CUT
+
 -- "a code line is `LOAD`, `ADD` or `CUT` and its numbers, LOAD's last 0 left out"
 abbrev pub instructionRow : Instruction → Row
 instructionRow (load target group) = row LOAD (target ∷ group ∷ [])
-instructionRow (add target s t) = row ADD (target ∷ s ∷ t ∷ [])
-instructionRow (cut target s t) = row CUT (target ∷ s ∷ t ∷ [])
+instructionRow (operate o target s t) = row (wordOf o) (target ∷ s ∷ t ∷ [])
 
 -- "then the code"
 unfoldable pub instructionRows : List Instruction → List Row

@@ -4,8 +4,8 @@ use mathlib.Core.Path.{_≡_}
 use Prim.Native.Nat.{ℕ, _+_, _-_, _*_, _≤_, _<_}
 use native.Mathlib.Omega.{arith}
 use lib.ListN.{length, getD, length-set}
-use Rattle.player.specs.Instructions.{Lamps}
-use Rattle.player.specs.InnerWords.{wordWidth, wordCount, word, combined, HoldsSet}
+use Rattle.player.specs.Instructions.{Lamps, combined, operationWith}
+use Rattle.player.specs.InnerWords.{wordWidth, wordCount, word, HoldsSet}
 use Rattle.player.proofs.HoldingLaws.{written}
 use Rattle.player.proofs.combine.Statement.{statement}
 use Rattle.player.proofs.combine.Tie as tie
@@ -13,7 +13,7 @@ use Rattle.player.proofs.combine.Tie as tie
 abbrev Inv-loop : tie.InvT-loop
 Inv-loop kind x y words₀ i₀ words i =
     (i ≤ wordCount) × (length words ≡ wordCount)
-    × ((f g : Lamps) → HoldsSet x f → HoldsSet y g → (k : ℕ) → k < i → getD words k 0 ≡ word (combined kind f g) (wordWidth * k + 1))
+    × ((f g : Lamps) → HoldsSet x f → HoldsSet y g → (k : ℕ) → k < i → getD words k 0 ≡ word (combined (operationWith kind) f g) (wordWidth * k + 1))
 
 abbrev μ-loop : tie.MeasureT-loop
 μ-loop kind x y words₀ i₀ words i = wordCount - i
@@ -54,7 +54,7 @@ loop-again c =
     let v = c .before .before .loop in (
       omega arith,
       simp length-set (v .inv .1),
-      λ f g x y. written (λ k word-k. k < v .i + 1 → word-k ≡ word (combined kind f g) (wordWidth * k + 1)) (v .words) (v .i) (c .combine-words .result) 0
+      λ f g x y. written (λ k word-k. k < v .i + 1 → word-k ≡ word (combined (operationWith kind) f g) (wordWidth * k + 1)) (v .words) (v .i) (c .combine-words .result) 0
           (omega arith)
           (λ _. c .combine-words .ensures f g (wordWidth * v .i + 1) (x .entry (v .i) (omega arith)) (y .entry (v .i) (omega arith)))
           (λ k n lt. v .inv .2 f g x y k (omega arith)),

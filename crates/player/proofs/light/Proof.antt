@@ -9,7 +9,7 @@ use lib.Bits.{bitOr}
 use lib.Dec.{eqb}
 use lib.ListN.{length-set}
 use lib.Pow.{pow-lt}
-use Rattle.player.specs.Instructions.{union}
+use Rattle.player.specs.Instructions.{add, combined}
 use Rattle.player.specs.InnerWords.{wordWidth, wordCount, word}
 use Rattle.player.proofs.PackingLaws.{pack-union, union-off, pack-one}
 use Rattle.player.proofs.HoldingLaws.{written}
@@ -48,7 +48,7 @@ returns c f held =
     let one : 2 ^ bit ≡ word (eqb lamp) first = sym (pack-one lamp first wordWidth bit (omega arith) within) in
     record {
       size = simp length-set (held .size);
-      entry = written (λ k word-k. k < wordCount → word-k ≡ word (union (eqb lamp) f) (wordWidth * k + 1)) (c .args .t1) i _ 0 (omega (arith, held .size))
+      entry = written (λ k word-k. k < wordCount → word-k ≡ word (combined add (eqb lamp) f) (wordWidth * k + 1)) (c .args .t1) i _ 0 (omega (arith, held .size))
           (λ lt. ap₂ bitOr (power ∙ one) (held .entry i lt) ∙ pack-union (eqb lamp) f first wordWidth)
           (λ k n lt. held .entry k lt ∙ union-off (eqb lamp) f (wordWidth * k + 1) wordWidth (λ other low high. ne-eqb lamp other (λ x. n (omega arith))));
     }

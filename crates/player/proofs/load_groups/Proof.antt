@@ -7,7 +7,7 @@ use native.Mathlib.Omega.{arith}
 use lib.Dec.{eqb}
 use lib.ListN.{length, getD, drop, length-drop}
 use Rattle.player.specs.Limits.{lastGroup, lastLamp}
-use Rattle.player.specs.Instructions.{Rig, union, put}
+use Rattle.player.specs.Instructions.{Rig, add, combined, put}
 use Rattle.player.specs.Patches.{rig}
 use Rattle.player.specs.InnerWords.{Placed, placeCount}
 use Rattle.player.proofs.FaultLaws.{right-pairs, right-pair}
@@ -113,7 +113,7 @@ loop-again c =
     let p : List ℕ = c .before .before .before .before .before .before .before .before .before .before .args .patch .now in
     let group : ℕ = number-at .result in
     let rest : Rig = rig (drop (2 * v .j) p) in
-    let more : put rest group (union (eqb (number-at2 .result)) (rest group)) ≡ rig (drop (2 * (v .j - 1)) p) =
+    let more : put rest group (combined add (eqb (number-at2 .result)) (rest group)) ≡ rig (drop (2 * (v .j - 1)) p) =
     rw (number-at .ensures, number-at2 .ensures) (rig-more p (2 * (v .j - 1)) (2 * v .j) (omega arith) (omega arith)) in
     let before = placed (c .before .before .before) in
     let within = right (c .before .before .before .before .before) .0 in (
