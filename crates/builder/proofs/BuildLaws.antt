@@ -9,7 +9,7 @@ use native.Mathlib.Omega.{arith}
 use lib.Dec.{eqb}
 use borrow.Author.Tests.{not-true, not-false}
 use lib.ListN.{length, getD}
-use Rattle.tree.specs.Tree.{union, difference, Tree, isGroup, isIn}
+use Rattle.tree.specs.Tree.{plus, minus, Tree, isGroup, isIn}
 use Rattle.tree.specs.InnerGroups.{Distinct}
 use Rattle.table.specs.InnerTable.{filling}
 use Rattle.table.proofs.TableLaws.{rowOf, row-below, row-agree, row-filling}
@@ -94,19 +94,19 @@ module _ (m : ℕ → Bool) (x a b : Option Tree) (q : OverOptional m x) (p : Ov
   left-over Drop = p
   left-over Less = p
   left-over Plus = p
-  left-over ReducedPlus = join-over m difference a x p q
-  left-over JoinedLess = join-over m union a x p q
+  left-over ReducedPlus = join-over m minus a x p q
+  left-over JoinedLess = join-over m plus a x p q
   left-over LessOutside = p
-  left-over ReducedUnion = join-over m difference a x p q
-  left-over JoinedDifference = join-over m union a x p q
+  left-over ReducedUnion = join-over m minus a x p q
+  left-over JoinedDifference = join-over m plus a x p q
 
   pub right-over : (form : Form) → OverOptional m (rightTree form x b)
   right-over Drop = tt
-  right-over Less = join-over m difference x b q r
-  right-over Plus = join-over m difference x b q r
-  right-over ReducedPlus = join-over m difference x b q r
-  right-over JoinedLess = join-over m difference x b q r
-  right-over LessOutside = join-over m difference b x r q
+  right-over Less = join-over m minus x b q r
+  right-over Plus = join-over m minus x b q r
+  right-over ReducedPlus = join-over m minus x b q r
+  right-over JoinedLess = join-over m minus x b q r
+  right-over LessOutside = join-over m minus b x r q
   right-over ReducedUnion = r
   right-over JoinedDifference = r
 
@@ -177,7 +177,7 @@ dropped-split t n s (inl T) =
 dropped-split t n s (inr B) = absurd (never-below (s .form) t (2 ^ s .variable) (s .plan) (B .some) (B .says))
 
 pub build-dropped : (h : Option Tree) (choice : Holder → Table → ℕ → ℕ) (n : ℕ) {t : Table} {gs : List ℕ} → Buildable Dropped t gs
-    → build choice (suc n) Dropped t gs h ≡ join union (build choice n Absent (firstPart Drop t (2 ^ n)) (without n gs) h) none
+    → build choice (suc n) Dropped t gs h ≡ join plus (build choice n Absent (firstPart Drop t (2 ^ n)) (without n gs) h) none
 unfolding build
 build-dropped h choice n {t} {gs} r =
     ap (λ (s : Split). formed (s .form) (variableTree h (getD gs (s .variable) 0))

@@ -3,7 +3,7 @@ use mathlib.Core.Path.{_≡_, refl, ap₂, _∙_}
 use mathlib.Core.Bool.{Bool, false}
 use mathlib.Core.Option.{Option}
 use Prim.Native.Nat.{ℕ}
-use Rattle.tree.specs.Tree.{Tree, union, difference, apply}
+use Rattle.tree.specs.Tree.{Tree, union, difference, plus, minus, operatorOf, apply}
 use Rattle.tree.proofs.TreeLaws.{or-false}
 use Rattle.forms.proofs.FormLaws.{formValue}
 use Rattle.forms.specs.declared.Form.{Form}
@@ -31,7 +31,7 @@ rightValue LessOutside x b = apply difference b x
 rightValue ReducedUnion x b = b
 rightValue JoinedDifference x b = b
 
-value-is : (form : Form) (x a b : Bool) → apply (outer form) (leftValue form x a) (rightValue form x b) ≡ formValue form x a b
+value-is : (form : Form) (x a b : Bool) → apply (operatorOf (outer form)) (leftValue form x a) (rightValue form x b) ≡ formValue form x a b
 value-is Drop x a b = or-false a
 value-is Less x a b = refl
 value-is Plus x a b = refl
@@ -46,22 +46,22 @@ module _ (v : ℕ → Bool) (x a b : Option Tree) where
   left-selects Drop = refl
   left-selects Less = refl
   left-selects Plus = refl
-  left-selects ReducedPlus = join-selects v difference a x
-  left-selects JoinedLess = join-selects v union a x
+  left-selects ReducedPlus = join-selects v minus a x
+  left-selects JoinedLess = join-selects v plus a x
   left-selects LessOutside = refl
-  left-selects ReducedUnion = join-selects v difference a x
-  left-selects JoinedDifference = join-selects v union a x
+  left-selects ReducedUnion = join-selects v minus a x
+  left-selects JoinedDifference = join-selects v plus a x
 
   right-selects : (form : Form) → selectsOptional v (rightTree form x b) ≡ rightValue form (selectsOptional v x) (selectsOptional v b)
   right-selects Drop = refl
-  right-selects Less = join-selects v difference x b
-  right-selects Plus = join-selects v difference x b
-  right-selects ReducedPlus = join-selects v difference x b
-  right-selects JoinedLess = join-selects v difference x b
-  right-selects LessOutside = join-selects v difference b x
+  right-selects Less = join-selects v minus x b
+  right-selects Plus = join-selects v minus x b
+  right-selects ReducedPlus = join-selects v minus x b
+  right-selects JoinedLess = join-selects v minus x b
+  right-selects LessOutside = join-selects v minus b x
   right-selects ReducedUnion = refl
   right-selects JoinedDifference = refl
 
   pub formed-selects : (form : Form) → selectsOptional v (formed form x a b) ≡ formValue form (selectsOptional v x) (selectsOptional v a) (selectsOptional v b)
-  formed-selects form = join-selects v (outer form) (leftTree form x a) (rightTree form x b) ∙ ap₂ (apply (outer form)) (left-selects form) (right-selects form)
+  formed-selects form = join-selects v (outer form) (leftTree form x a) (rightTree form x b) ∙ ap₂ (apply (operatorOf (outer form))) (left-selects form) (right-selects form)
       ∙ value-is form (selectsOptional v x) (selectsOptional v a) (selectsOptional v b)

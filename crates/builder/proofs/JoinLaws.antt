@@ -4,7 +4,7 @@ use mathlib.Core.Bool.{Bool, true, false, _&&_}
 use mathlib.Core.Option.{Option, some, none}
 use Prim.Native.Nat.{ℕ}
 use lib.Dec.{T}
-use Rattle.tree.specs.Tree.{Operator, union, difference, Tree, leaf, isGroup, apply, selects, Over}
+use Rattle.tree.specs.Tree.{Basic, plus, minus, operatorOf, Tree, leaf, isGroup, apply, selects, Over}
 use Rattle.tree.proofs.TreeLaws.{or-false}
 use Rattle.tree.proofs.PassLaws.{entry-leaf}
 use Rattle.builder.specs.InnerBuilding.{join, leafOf, single}
@@ -25,23 +25,23 @@ and-true : (a : Bool) → a ≡ a && true
 and-true true = refl
 and-true false = refl
 
-pub join-selects : (v : ℕ → Bool) (o : Operator) (a b : Option Tree) → selectsOptional v (join o a b) ≡ apply o (selectsOptional v a) (selectsOptional v b)
+pub join-selects : (v : ℕ → Bool) (o : Basic) (a b : Option Tree) → selectsOptional v (join o a b) ≡ apply (operatorOf o) (selectsOptional v a) (selectsOptional v b)
 unfolding selects
-join-selects v union none b = refl
-join-selects v union (some a) none = sym (or-false (selects v a))
-join-selects v union (some a) (some b) = refl
-join-selects v difference none b = refl
-join-selects v difference (some a) none = and-true (selects v a)
-join-selects v difference (some a) (some b) = refl
+join-selects v plus none b = refl
+join-selects v plus (some a) none = sym (or-false (selects v a))
+join-selects v plus (some a) (some b) = refl
+join-selects v minus none b = refl
+join-selects v minus (some a) none = and-true (selects v a)
+join-selects v minus (some a) (some b) = refl
 
-pub join-over : (m : ℕ → Bool) (o : Operator) (a b : Option Tree) → OverOptional m a → OverOptional m b → OverOptional m (join o a b)
+pub join-over : (m : ℕ → Bool) (o : Basic) (a b : Option Tree) → OverOptional m a → OverOptional m b → OverOptional m (join o a b)
 unfolding Over
-join-over m union none b p q = q
-join-over m union (some a) none p q = p
-join-over m union (some a) (some b) p q = (p, q)
-join-over m difference none b p q = tt
-join-over m difference (some a) none p q = p
-join-over m difference (some a) (some b) p q = (p, q)
+join-over m plus none b p q = q
+join-over m plus (some a) none p q = p
+join-over m plus (some a) (some b) p q = (p, q)
+join-over m minus none b p q = tt
+join-over m minus (some a) none p q = p
+join-over m minus (some a) (some b) p q = (p, q)
 
 -- ---- a group's leaf
 pub group-holds : (x : ℕ) → isGroup x ≡ true → T (isGroup x)

@@ -7,7 +7,7 @@ use Prim.Native.Nat.{ℕ, zero, suc, _+_, _^_, _≤_}
 use native.Mathlib.Omega.{arith}
 use lib.Dec.{eqb}
 use lib.ListN.{length, getD}
-use Rattle.tree.specs.Tree.{Operator, union, difference, Tree, size}
+use Rattle.tree.specs.Tree.{Basic, plus, minus, Tree, size}
 use Rattle.tree.specs.Pass.{Entry, group, operator, neither, entryOf}
 use Rattle.free_tables.specs.InnerTables.{Table, firstPart, secondPart}
 use Rattle.forms.specs.declared.Form.{Form}
@@ -17,31 +17,31 @@ use Rattle.splits.specs.declared.Holder.{Holder}
 use Rattle.splits.specs.declared.Split.{Split}
 use Rattle.builder.specs.InnerBuilding.{sizeOptional, join, leafOf, single, formed, variableTree, without, build, mostFor, mostFormed, Buildable, HolderTree}
 use Rattle.builder.proofs.ReadyLaws.{variableSize, split-buildable}
-use Rattle.builder.proofs.WritingLaws.{union-none, without-length}
+use Rattle.builder.proofs.WritingLaws.{plus-none, without-length}
 
-pub join-size : (o : Operator) (a b : Option Tree) → sizeOptional (join o a b) ≤ sizeOptional a + sizeOptional b + 1
+pub join-size : (o : Basic) (a b : Option Tree) → sizeOptional (join o a b) ≤ sizeOptional a + sizeOptional b + 1
 unfolding size
-join-size union none b = omega arith
-join-size union (some a) none = omega arith
-join-size union (some a) (some b) = omega arith
-join-size difference none b = omega arith
-join-size difference (some a) none = omega arith
-join-size difference (some a) (some b) = omega arith
+join-size plus none b = omega arith
+join-size plus (some a) none = omega arith
+join-size plus (some a) (some b) = omega arith
+join-size minus none b = omega arith
+join-size minus (some a) none = omega arith
+join-size minus (some a) (some b) = omega arith
 
 -- a form's tree
 module _ (x a b : Option Tree) where
-  two : (o p : Operator) (l : Option Tree) → sizeOptional (join o l (join p x b)) ≤ sizeOptional l + sizeOptional x + sizeOptional b + 2
+  two : (o p : Basic) (l : Option Tree) → sizeOptional (join o l (join p x b)) ≤ sizeOptional l + sizeOptional x + sizeOptional b + 2
   two o p l = omega (arith, join-size o l (join p x b), join-size p x b)
 
   pub formed-size : (form : Form) → sizeOptional (formed form x a b) ≤ mostFormed form (sizeOptional x) (sizeOptional a) (sizeOptional b)
-  formed-size Drop = omega (arith, ap sizeOptional (union-none a))
-  formed-size Less = two difference difference a
-  formed-size Plus = two union difference a
-  formed-size ReducedPlus = omega (arith, two union difference (join difference a x), join-size difference a x)
-  formed-size JoinedLess = omega (arith, two difference difference (join union a x), join-size union a x)
-  formed-size LessOutside = omega (arith, join-size difference a (join difference b x), join-size difference b x)
-  formed-size ReducedUnion = omega (arith, join-size union (join difference a x) b, join-size difference a x)
-  formed-size JoinedDifference = omega (arith, join-size difference (join union a x) b, join-size union a x)
+  formed-size Drop = omega (arith, ap sizeOptional (plus-none a))
+  formed-size Less = two minus minus a
+  formed-size Plus = two plus minus a
+  formed-size ReducedPlus = omega (arith, two plus minus (join minus a x), join-size minus a x)
+  formed-size JoinedLess = omega (arith, two minus minus (join plus a x), join-size plus a x)
+  formed-size LessOutside = omega (arith, join-size minus a (join minus b x), join-size minus b x)
+  formed-size ReducedUnion = omega (arith, join-size plus (join minus a x) b, join-size minus a x)
+  formed-size JoinedDifference = omega (arith, join-size minus (join plus a x) b, join-size plus a x)
 
 pub most-grows : (form : Form) {x y a c b d : ℕ} → x ≤ y → a ≤ c → b ≤ d → mostFormed form x a b ≤ mostFormed form y c d
 most-grows Drop p q r = q

@@ -8,7 +8,7 @@ use native.Mathlib.Nat.{le-refl, two-pow-succ}
 use native.Mathlib.Omega.{arith}
 use lib.Dec.{eqb}
 use lib.ListN.{length, getD, take, length-take}
-use Rattle.tree.specs.Tree.{Tree, postfix, sign, mostGroups}
+use Rattle.tree.specs.Tree.{sign, operatorOf, Tree, postfix, mostGroups}
 use Rattle.tree.specs.InnerWriting.{Wrote}
 use Rattle.tree.proofs.WritingLaws.{wrote-nothing, wrote-as}
 use Rattle.free_tables.specs.InnerTables.{Table, tableOf, half, firstPart, secondPart, Parted}
@@ -271,7 +271,7 @@ module _ {d : ℕ} {m : Holder} {t : Table} {gs hs out : List ℕ} {at n : ℕ} 
       operate-need = omega (arith, after-need, u .ends, u .same)
 
       -- and the operator written
-      module _ {o₆ : List ℕ} {next last : ℕ} (l : last ≡ sign (outer (r .form))) (v : Wrote o₅ right o₆ next (between at left right last)) where
+      module _ {o₆ : List ℕ} {next last : ℕ} (l : last ≡ sign (operatorOf (outer (r .form)))) (v : Wrote o₅ right o₆ next (between at left right last)) where
         pub all-same : length o₆ ≡ length out
         all-same = v .same ∙ u .same ∙ fits-b .same ∙ p .before .same ∙ left-same (p .begun) (p .a) (p .leftDone)
 

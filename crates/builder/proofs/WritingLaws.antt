@@ -10,7 +10,7 @@ use lib.Dec.{eqb}
 use lib.ListN.{length, take, drop, length-append, length-drop}
 use lib.Seq.{take-all, length-take-le}
 use borrow.Author.Tests.{eq-eqb, ne-eqb, eqb-false}
-use Rattle.tree.specs.Tree.{Operator, union, difference, sign, Tree, isGroup, postfix}
+use Rattle.tree.specs.Tree.{union, difference, sign, Basic, plus, minus, operatorOf, Tree, isGroup, postfix}
 use Rattle.tree.specs.InnerWriting.{Wrote}
 use Rattle.tree.proofs.TreeLaws.{postfix-length, size-positive}
 use Rattle.tree.proofs.WritingLaws.{wrote-then, wrote-as, wrote-take}
@@ -53,21 +53,21 @@ between-both : (a b c s : ℕ) → a < b → b < c → between a b c s ≡ s ∷
 between-both a b c s h k = rw (ne-eqb a b (λ e. omega arith), ne-eqb b c (λ e. omega arith))
 
 -- the list of two trees and their operator, the first from `from` to `middle`, the second from there to `to`
-pub join-written : (o : Operator) (a b : Option Tree) (from middle to : ℕ) → (o ≡ difference → a ≡ none → b ≡ none)
+pub join-written : (o : Basic) (a b : Option Tree) (from middle to : ℕ) → (o ≡ minus → a ≡ none → b ≡ none)
     → middle ≡ from + length (postfixOptional a) → to ≡ middle + length (postfixOptional b)
-    → postfixOptional a ++ (postfixOptional b ++ between from middle to (sign o)) ≡ postfixOptional (join o a b)
+    → postfixOptional a ++ (postfixOptional b ++ between from middle to (sign (operatorOf o))) ≡ postfixOptional (join o a b)
 unfolding postfix
-join-written union none b from middle to h f g = rw (between-first from middle to (sign union) (omega arith)) (append-nil (postfixOptional b))
-join-written union (some a) none from middle to h f g = rw (between-second from middle to (sign union) (omega arith)) (append-nil (postfix a))
-join-written union (some a) (some b) from middle to h f g =
+join-written plus none b from middle to h f g = rw (between-first from middle to (sign union) (omega arith)) (append-nil (postfixOptional b))
+join-written plus (some a) none from middle to h f g = rw (between-second from middle to (sign union) (omega arith)) (append-nil (postfix a))
+join-written plus (some a) (some b) from middle to h f g =
     rw (between-both from middle to (sign union) (omega (arith, tree-long a)) (omega (arith, tree-long b)))
-join-written difference none b from middle to h f g = rw (h refl refl) (between-first from middle to (sign difference) (omega arith))
-join-written difference (some a) none from middle to h f g = rw (between-second from middle to (sign difference) (omega arith)) (append-nil (postfix a))
-join-written difference (some a) (some b) from middle to h f g =
+join-written minus none b from middle to h f g = rw (h refl refl) (between-first from middle to (sign difference) (omega arith))
+join-written minus (some a) none from middle to h f g = rw (between-second from middle to (sign difference) (omega arith)) (append-nil (postfix a))
+join-written minus (some a) (some b) from middle to h f g =
     rw (between-both from middle to (sign difference) (omega (arith, tree-long a)) (omega (arith, tree-long b)))
 
-pub wrote-join : {out o₁ o₂ o₃ : List ℕ} {from middle to r : ℕ} (o : Operator) (a b : Option Tree) → (o ≡ difference → a ≡ none → b ≡ none)
-    → Wrote out from o₁ middle (postfixOptional a) → Wrote o₁ middle o₂ to (postfixOptional b) → Wrote o₂ to o₃ r (between from middle to (sign o))
+pub wrote-join : {out o₁ o₂ o₃ : List ℕ} {from middle to r : ℕ} (o : Basic) (a b : Option Tree) → (o ≡ minus → a ≡ none → b ≡ none)
+    → Wrote out from o₁ middle (postfixOptional a) → Wrote o₁ middle o₂ to (postfixOptional b) → Wrote o₂ to o₃ r (between from middle to (sign (operatorOf o)))
     → Wrote out from o₃ r (postfixOptional (join o a b))
 wrote-join o a b h f g k = wrote-as (wrote-then f (wrote-then g k)) (join-written o a b _ _ _ h (f .ends) (g .ends))
 
@@ -83,17 +83,17 @@ variable-list h {hs} x e (inr g) =
 
 -- ---- a form's tree, where t is the variable's
 module _ (t : Tree) where
-  joined-written : (o : Operator) (a : Option Tree) (from at : ℕ) → at ≡ from + length (postfixOptional a)
-      → postfixOptional a ++ joinedBy (sign o) (eqb from at) (postfix t) ≡ postfixOptional (join o a (some t))
+  joined-written : (o : Basic) (a : Option Tree) (from at : ℕ) → at ≡ from + length (postfixOptional a)
+      → postfixOptional a ++ joinedBy (sign (operatorOf o)) (eqb from at) (postfix t) ≡ postfixOptional (join o a (some t))
   unfolding postfix
-  joined-written union none from at e = rw (eq-eqb from at (omega arith))
-  joined-written union (some a) from at e = rw (ne-eqb from at (λ z. omega (arith, tree-long a)))
-  joined-written difference none from at e = rw (eq-eqb from at (omega arith))
-  joined-written difference (some a) from at e = rw (ne-eqb from at (λ z. omega (arith, tree-long a)))
+  joined-written plus none from at e = rw (eq-eqb from at (omega arith))
+  joined-written plus (some a) from at e = rw (ne-eqb from at (λ z. omega (arith, tree-long a)))
+  joined-written minus none from at e = rw (eq-eqb from at (omega arith))
+  joined-written minus (some a) from at e = rw (ne-eqb from at (λ z. omega (arith, tree-long a)))
 
   less-written : (b : Option Tree) (left middle to : ℕ) → middle ≡ left + length (postfix t) → to ≡ middle + length (postfixOptional b)
-      → postfix t ++ (postfixOptional b ++ between left middle to (sign difference)) ≡ postfixOptional (join difference (some t) b)
-  less-written b left middle to = join-written difference (some t) b left middle to (λ d e. no-tree e)
+      → postfix t ++ (postfixOptional b ++ between left middle to (sign difference)) ≡ postfixOptional (join minus (some t) b)
+  less-written b left middle to = join-written minus (some t) b left middle to (λ d e. no-tree e)
 
   -- what is written after a makes it the left operand
   left-written : (form : Form) (a : Option Tree) (from at : ℕ) → at ≡ from + length (postfixOptional a)
@@ -101,11 +101,11 @@ module _ (t : Tree) where
   left-written Drop a from at e = append-nil (postfixOptional a)
   left-written Less a from at e = append-nil (postfixOptional a)
   left-written Plus a from at e = append-nil (postfixOptional a)
-  left-written ReducedPlus a from at e = joined-written difference a from at e
-  left-written JoinedLess a from at e = joined-written union a from at e
+  left-written ReducedPlus a from at e = joined-written minus a from at e
+  left-written JoinedLess a from at e = joined-written plus a from at e
   left-written LessOutside a from at e = append-nil (postfixOptional a)
-  left-written ReducedUnion a from at e = joined-written difference a from at e
-  left-written JoinedDifference a from at e = joined-written union a from at e
+  left-written ReducedUnion a from at e = joined-written minus a from at e
+  left-written JoinedDifference a from at e = joined-written plus a from at e
 
   -- what is written before and after b makes it the right operand
   right-written : (form : Form) (b : Option Tree) (left middle to : ℕ) → (rightKind form ≡ 0 → ⊥) → middle ≡ left + length (beforeWritten form (postfix t))
@@ -116,51 +116,51 @@ module _ (t : Tree) where
   right-written Plus b left middle to n p q = less-written b left middle to p q
   right-written ReducedPlus b left middle to n p q = less-written b left middle to p q
   right-written JoinedLess b left middle to n p q = less-written b left middle to p q
-  right-written LessOutside b left middle to n p q = joined-written difference b middle to q
+  right-written LessOutside b left middle to n p q = joined-written minus b middle to q
   right-written ReducedUnion b left middle to n p q = append-nil (postfixOptional b)
   right-written JoinedDifference b left middle to n p q = append-nil (postfixOptional b)
 
 -- a tree that ends with its left operand
-join-ends : (o : Operator) (l r : Option Tree) (from at : ℕ) → at ≡ from + length (postfixOptional l) → eqb from at && eqb (sign o) (sign difference) ≡ true → join o l r ≡ l
-join-ends union l r from at e h = absurd (go (eqb from at) h)
+join-ends : (o : Basic) (l r : Option Tree) (from at : ℕ) → at ≡ from + length (postfixOptional l) → eqb from at && eqb (sign (operatorOf o)) (sign difference) ≡ true → join o l r ≡ l
+join-ends plus l r from at e h = absurd (go (eqb from at) h)
   where
     go : (b : Bool) → b && false ≡ true → ⊥
     go true h = false≢true h
     go false h = false≢true h
-join-ends difference none r from at e h = refl
-join-ends difference (some l) r from at e h = absurd (false≢true (sym (ap (λ (b : Bool). b && true) (ne-eqb from at (λ z. omega (arith, tree-long l)))) ∙ h))
+join-ends minus none r from at e h = refl
+join-ends minus (some l) r from at e h = absurd (false≢true (sym (ap (λ (b : Bool). b && true) (ne-eqb from at (λ z. omega (arith, tree-long l)))) ∙ h))
 
 -- one that goes on: no difference is of nothing
-join-goes : (o : Operator) (l r : Option Tree) (from at : ℕ) → at ≡ from + length (postfixOptional l) → eqb from at && eqb (sign o) (sign difference) ≡ false
-    → o ≡ difference → l ≡ none → r ≡ none
-join-goes union l r from at e h d z = absurd (let w : _≡_ {A = ℕ} 0 1 = cc in omega arith)
-join-goes difference none r from at e h d z = absurd (false≢true (sym h ∙ ap (λ (b : Bool). b && true) (eq-eqb from at (omega arith))))
-join-goes difference (some l) r from at e h d z = no-tree z
+join-goes : (o : Basic) (l r : Option Tree) (from at : ℕ) → at ≡ from + length (postfixOptional l) → eqb from at && eqb (sign (operatorOf o)) (sign difference) ≡ false
+    → o ≡ minus → l ≡ none → r ≡ none
+join-goes plus l r from at e h d z = absurd (let w : _≡_ {A = ℕ} 0 1 = cc in omega arith)
+join-goes minus none r from at e h d z = absurd (false≢true (sym h ∙ ap (λ (b : Bool). b && true) (eq-eqb from at (omega arith))))
+join-goes minus (some l) r from at e h d z = no-tree z
 
 or-false : (a b : Bool) → a || b ≡ false → (a ≡ false) × (b ≡ false)
 or-false true b e = absurd (false≢true (sym e))
 or-false false b e = (refl, e)
 
-goes-on : (form : Form) (e : Bool) → endsThere form e ≡ false → (eqb (rightKind form) 0 ≡ false) × (e && eqb (sign (outer form)) (sign difference) ≡ false)
-goes-on form e = or-false (eqb (rightKind form) 0) (e && eqb (sign (outer form)) (sign difference))
+goes-on : (form : Form) (e : Bool) → endsThere form e ≡ false → (eqb (rightKind form) 0 ≡ false) × (e && eqb (sign (operatorOf (outer form))) (sign difference) ≡ false)
+goes-on form e = or-false (eqb (rightKind form) 0) (e && eqb (sign (operatorOf (outer form))) (sign difference))
 
 pub has-right : (form : Form) (e : Bool) → endsThere form e ≡ false → rightKind form ≡ 0 → ⊥
 has-right form e h = eqb-false (rightKind form) 0 (goes-on form e h .0)
 
-pub union-none : (a : Option Tree) → join union a none ≡ a
-union-none none = refl
-union-none (some a) = refl
+pub plus-none : (a : Option Tree) → join plus a none ≡ a
+plus-none none = refl
+plus-none (some a) = refl
 
 formed-ends : (form : Form) (x a b : Option Tree) (from at : ℕ) → at ≡ from + length (postfixOptional (leftTree form x a)) → endsThere form (eqb from at) ≡ true
     → formed form x a b ≡ leftTree form x a
-formed-ends Drop x a b from at e h = union-none a
-formed-ends Less x a b from at e h = join-ends difference a _ from at e h
-formed-ends Plus x a b from at e h = join-ends union a _ from at e h
-formed-ends ReducedPlus x a b from at e h = join-ends union (join difference a x) _ from at e h
-formed-ends JoinedLess x a b from at e h = join-ends difference (join union a x) _ from at e h
-formed-ends LessOutside x a b from at e h = join-ends difference a _ from at e h
-formed-ends ReducedUnion x a b from at e h = join-ends union (join difference a x) b from at e h
-formed-ends JoinedDifference x a b from at e h = join-ends difference (join union a x) b from at e h
+formed-ends Drop x a b from at e h = plus-none a
+formed-ends Less x a b from at e h = join-ends minus a _ from at e h
+formed-ends Plus x a b from at e h = join-ends plus a _ from at e h
+formed-ends ReducedPlus x a b from at e h = join-ends plus (join minus a x) _ from at e h
+formed-ends JoinedLess x a b from at e h = join-ends minus (join plus a x) _ from at e h
+formed-ends LessOutside x a b from at e h = join-ends minus a _ from at e h
+formed-ends ReducedUnion x a b from at e h = join-ends plus (join minus a x) b from at e h
+formed-ends JoinedDifference x a b from at e h = join-ends minus (join plus a x) b from at e h
 
 module _ (t : Tree) {xs : List ℕ} (ex : xs ≡ postfix t) (form : Form) (a b : Option Tree) {out o₁ o₂ : List ℕ} {at i left : ℕ}
     (f : Wrote out at o₁ i (postfixOptional a)) (g : Wrote o₁ i o₂ left (leftWritten form (eqb at i) xs)) where
@@ -173,7 +173,7 @@ module _ (t : Tree) {xs : List ℕ} (ex : xs ≡ postfix t) (form : Form) (a b :
 
   pub form-wrote : {o₃ o₄ o₅ o₆ : List ℕ} {middle to right r : ℕ} → endsThere form (eqb at left) ≡ false → Wrote o₂ left o₃ middle (beforeWritten form xs)
       → Wrote o₃ middle o₄ to (postfixOptional b) → Wrote o₄ to o₅ right (afterWritten form left middle to xs)
-      → Wrote o₅ right o₆ r (between at left right (sign (outer form))) → Wrote out at o₆ r (postfixOptional (formed form (some t) a b))
+      → Wrote o₅ right o₆ r (between at left right (sign (operatorOf (outer form)))) → Wrote out at o₆ r (postfixOptional (formed form (some t) a b))
   form-wrote {o₃} {o₄} {o₅} {o₆} {middle} {to} h p q s u =
       let e : middle ≡ left + length (beforeWritten form (postfix t)) = rw (sym ex) (p .ends) in
       let w = right-written t form b left middle to (has-right form (eqb at left) h) e (q .ends) in

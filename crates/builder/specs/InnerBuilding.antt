@@ -7,7 +7,7 @@ use mathlib.Core.Option.{Option, some, none}
 use Prim.Native.Nat.{ℕ, zero, suc, _+_, _-_, _*_, _^_, _≤_}
 use lib.Dec.{eqb}
 use lib.ListN.{length, getD, take, drop}
-use Rattle.tree.specs.Tree.{Operator, union, difference, sign, Tree, leaf, node, isGroup, postfix, size, isIn, mostGroups}
+use Rattle.tree.specs.Tree.{union, difference, sign, Basic, plus, minus, operatorOf, Tree, leaf, node, isGroup, postfix, size, isIn, mostGroups}
 use Rattle.tree.specs.Pass.{Entry, group, operator, neither, entryOf}
 use Rattle.tree.specs.InnerWriting.{Wrote}
 use Rattle.free_tables.specs.InnerTables.{Table, tableOf, half, rowAt, firstPart, secondPart, usable, Holds}
@@ -30,13 +30,13 @@ sizeOptional none = 0
 sizeOptional (some t) = size t
 
 -- union and difference that know the empty case
-abbrev pub join : Operator → Option Tree → Option Tree → Option Tree
-join union none b = b
-join union (some a) none = some a
-join union (some a) (some b) = some (node union a b)
-join difference none b = none
-join difference (some a) none = some a
-join difference (some a) (some b) = some (node difference a b)
+abbrev pub join : Basic → Option Tree → Option Tree → Option Tree
+join plus none b = b
+join plus (some a) none = some a
+join plus (some a) (some b) = some (node union a b)
+join minus none b = none
+join minus (some a) none = some a
+join minus (some a) (some b) = some (node difference a b)
 
 -- the leaf of an entry that is a group
 abbrev pub leafOf : Entry → Option Tree
@@ -53,31 +53,31 @@ abbrev pub leftTree : Form → Option Tree → Option Tree → Option Tree
 leftTree Drop x a = a
 leftTree Less x a = a
 leftTree Plus x a = a
-leftTree ReducedPlus x a = join difference a x
-leftTree JoinedLess x a = join union a x
+leftTree ReducedPlus x a = join minus a x
+leftTree JoinedLess x a = join plus a x
 leftTree LessOutside x a = a
-leftTree ReducedUnion x a = join difference a x
-leftTree JoinedDifference x a = join union a x
+leftTree ReducedUnion x a = join minus a x
+leftTree JoinedDifference x a = join plus a x
 
 abbrev pub rightTree : Form → Option Tree → Option Tree → Option Tree
 rightTree Drop x b = none
-rightTree Less x b = join difference x b
-rightTree Plus x b = join difference x b
-rightTree ReducedPlus x b = join difference x b
-rightTree JoinedLess x b = join difference x b
-rightTree LessOutside x b = join difference b x
+rightTree Less x b = join minus x b
+rightTree Plus x b = join minus x b
+rightTree ReducedPlus x b = join minus x b
+rightTree JoinedLess x b = join minus x b
+rightTree LessOutside x b = join minus b x
 rightTree ReducedUnion x b = b
 rightTree JoinedDifference x b = b
 
-abbrev pub outer : Form → Operator
-outer Drop = union
-outer Less = difference
-outer Plus = union
-outer ReducedPlus = union
-outer JoinedLess = difference
-outer LessOutside = difference
-outer ReducedUnion = union
-outer JoinedDifference = difference
+abbrev pub outer : Form → Basic
+outer Drop = plus
+outer Less = minus
+outer Plus = plus
+outer ReducedPlus = plus
+outer JoinedLess = minus
+outer LessOutside = minus
+outer ReducedUnion = plus
+outer JoinedDifference = minus
 
 abbrev pub formed : Form → Option Tree → Option Tree → Option Tree → Option Tree
 formed form x a b = join (outer form) (leftTree form x a) (rightTree form x b)
@@ -163,7 +163,7 @@ leftWritten form empty xs = cond (eqb (leftSign form) 0) [] (joinedBy (leftSign 
 
 -- whether the tree ends with the left operand, which may be empty
 abbrev pub endsThere : Form → Bool → Bool
-endsThere form empty = eqb (rightKind form) 0 || (empty && eqb (sign (outer form)) (sign difference))
+endsThere form empty = eqb (rightKind form) 0 || (empty && eqb (sign (operatorOf (outer form))) (sign difference))
 
 -- before b, which stands from `middle` to `to`, and after it: what makes it the right operand, which stands from `left` on
 abbrev pub beforeWritten : Form → List ℕ → List ℕ

@@ -4,7 +4,7 @@ ghost use mathlib.Core.List.{[], _∷_};
 ghost use Prim.Native.Nat.{suc, _+_, _-_, _<_, _≤_};
 ghost use lib.Dec.{eqb};
 ghost use lib.ListN.{length, take};
-ghost use Rattle.tree.specs.Tree.{sign, mostGroups};
+ghost use Rattle.tree.specs.Tree.{sign, operatorOf, mostGroups};
 ghost use Rattle.tree.specs.InnerWriting.{Wrote};
 ghost use Rattle.free_tables.specs.InnerTables.{tableOf};
 ghost use Rattle.builder.specs.InnerBuilding.{outer, without, mostFor, Ready, Turned, Holding, Built, between, variableList, joinedBy, leftSign, rightKind, leftWritten, endsThere, beforeWritten, afterWritten};
@@ -76,7 +76,7 @@ fn write_joined(
 
 // The operator between a form's two operands.
 fn outer(form: Form) -> u16
-    ensures { λ r. ⌜ r ≡ sign (outer form) ⌝ }
+    ensures { λ r. ⌜ r ≡ sign (operatorOf (outer form)) ⌝ }
 {
     match form {
         Form::Drop => tree::UNION,

@@ -11,7 +11,7 @@ use lib.Dec.{ltb}
 use lib.ListN.{length, getD, set, take, length-take, length-append}
 use lib.Seq.{length-take-le}
 use borrow.Author.Tests.{lt-ltb, le-ltb}
-use Rattle.tree.specs.Tree.{union, difference, sign, Tree, isGroup, postfix, mostGroups}
+use Rattle.tree.specs.Tree.{union, difference, sign, plus, minus, Tree, isGroup, postfix, mostGroups}
 use Rattle.tree.specs.InnerWriting.{Wrote}
 use Rattle.tree.proofs.WritingLaws.{wrote-then, wrote-as, wrote-take}
 use Rattle.table.specs.InnerTable.{rowCount}
@@ -152,12 +152,12 @@ pub width-positive : {ms us : List ℕ} {w columns room : ℕ} → Room ms us w 
 width-positive {ms} s = omega (arith, s .width, pow-pos (length ms))
 
 -- ---- the constant columns' tree
-mark-twice : (x : ℕ) → isGroup x ≡ true → x ∷ x ∷ sign difference ∷ [] ≡ postfixOptional (join difference (single x) (single x))
+mark-twice : (x : ℕ) → isGroup x ≡ true → x ∷ x ∷ sign difference ∷ [] ≡ postfixOptional (join minus (single x) (single x))
 unfolding postfix
-mark-twice x g = sym (ap (λ (s : Option Tree). postfixOptional (join difference s s)) (single-leaf x g))
+mark-twice x g = sym (ap (λ (s : Option Tree). postfixOptional (join minus s s)) (single-leaf x g))
 
-union-not : {X : Type 0} → union ≡ difference → X
-union-not e = absurd (let z : _≡_ {A = ℕ} 0 1 = cc in omega arith)
+pub plus-not : {X : Type 0} → plus ≡ minus → X
+plus-not e = absurd (let z : _≡_ {A = ℕ} 0 1 = cc in omega arith)
 
 -- the rows r are the columns' first ones
 module _ (T : ℕ → Bool) {ms us : List ℕ} {w columns room : ℕ} (s : Room ms us w columns room) (q : ConstantReady T ms us)
@@ -181,7 +181,7 @@ module _ (T : ℕ → Bool) {ms us : List ℕ} {w columns room : ℕ} (s : Room 
     unfolding constantTree
     constant-wrote g k =
         let x = getD ms 0 0 in
-        wrote-join union A (join difference (single x) (single x)) (λ e z. union-not e) first-wrote
+        wrote-join plus A (join minus (single x) (single x)) (λ e z. plus-not e) first-wrote
         (wrote-as g (mark-twice x (q .mark-groups x (variable-in ms 0 (s .some-mark))))) k
 
 -- ---- the columns' tree

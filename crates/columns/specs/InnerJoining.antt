@@ -6,7 +6,7 @@ use mathlib.Core.Option.{Option, none}
 use Prim.Native.Nat.{ℕ, suc, _+_, _-_, _*_, _^_}
 use lib.Dec.{ltb}
 use lib.ListN.{length, getD}
-use Rattle.tree.specs.Tree.{union, difference, Tree}
+use Rattle.tree.specs.Tree.{plus, minus, Tree}
 use Rattle.table.specs.InnerTable.{tabulate}
 use Rattle.free_tables.specs.InnerTables.{Table}
 use Rattle.splits.specs.InnerSplits.{choose}
@@ -47,7 +47,7 @@ module _ (T : ℕ → Bool) (marks others : List ℕ) where
 
   -- all columns are constant: A ∪ (m − m) for a mark m
   unfoldable pub constantTree : Option Tree
-  constantTree = join union (build choose (length others) Absent firstRows others none) (join difference (single (getD marks 0 0)) (single (getD marks 0 0)))
+  constantTree = join plus (build choose (length others) Absent firstRows others none) (join minus (single (getD marks 0 0)) (single (getD marks 0 0)))
 
   -- the tree for a choice; of `low` and `high` one is 0, and the other is the row p
   abbrev pub treeFor : Choice → Option Tree

@@ -12,7 +12,7 @@ use lib.Pow.{pow-pos}
 use lib.Dec.{eqb, ltb}
 use borrow.Author.Tests.{eqb-true, ltb-true, ltb-false}
 use lib.ListN.{length, getD, length-append}
-use Rattle.tree.specs.Tree.{union, difference, Tree, leaf, node, isGroup, size, selects, Over, Equivalent, isIn}
+use Rattle.tree.specs.Tree.{difference, plus, minus, Tree, leaf, node, isGroup, size, selects, Over, Equivalent, isIn}
 use Rattle.tree.proofs.TreeLaws.{or-false, is-in-append, or-cases, in-left, in-right, selects-equivalent}
 use Rattle.table.specs.InnerTable.{filling}
 use Rattle.table.proofs.TableLaws.{rowOf, Tabled, row-below, row-append, row-agree, row-filling, selects-row, value-zero}
@@ -23,7 +23,7 @@ use Rattle.builder.proofs.JoinLaws.{selectsOptional, OverOptional, join-selects
 use Rattle.forms.proofs.TestLaws.{beq-true}
 use Rattle.builder.proofs.ReadyLaws.{variable-in}
 use Rattle.builder.proofs.BuildLaws.{group-over, build-over, build-some}
-use Rattle.columns.proofs.ColumnLaws.{row-column}
+use Rattle.columns.proofs.ColumnLaws.{plus-not, row-column}
 use Rattle.columns.specs.InnerJoining.{differs, columnTable, heldTable, firstRows, holderTree, columnsTree, constantTree, treeFor}
 use Rattle.splits.specs.declared.Holder.the-variants.{Absent, Held}
 use Rattle.columns.specs.InnerChoosing.{agrees, failing, settled, chosenAt, choice}
@@ -33,7 +33,7 @@ use Rattle.gather.specs.Gathering.{Gathered}
 use Rattle.gather.proofs.Criterion.{mixed, FiveFillings}
 use Rattle.gather.specs.Inner.{MarkedParts}
 use Rattle.gather.proofs.GatheringLaws.{unmarked, gathered-whole}
-use Rattle.gather.proofs.HeldLaws.{GatheredSome, Some, union-not, join-right, Others, plain-over, held-gathered}
+use Rattle.gather.proofs.HeldLaws.{GatheredSome, Some, join-right, Others, plain-over, held-gathered}
 use Rattle.gather.proofs.JoiningLaws.{plain-buildable, plain-selects, plain-some-on, falls-held, rises-held, held-buildable, held-selects}
 
 -- ---- rows of columns of w rows
@@ -273,33 +273,33 @@ module _ (Ta : ℕ → Bool) (ms us : List ℕ) {m : ℕ → Bool} (parts : Mark
       mark-group : isGroup (getD ms 0 0) ≡ true
       mark-group = parts .mark-groups (getD ms 0 0) mark-in
 
-      nothing-gathered : GatheredSome m (join difference (single (getD ms 0 0)) (single (getD ms 0 0)))
+      nothing-gathered : GatheredSome m (join minus (single (getD ms 0 0)) (single (getD ms 0 0)))
       unfolding Over
       nothing-gathered =
           let l = leaf (getD ms 0 0) (group-holds (getD ms 0 0) mark-group) in
           let e = single-leaf (getD ms 0 0) mark-group in
           let o = parts .marked (getD ms 0 0) mark-in in
-          record { tree = node difference l l; is = ap₂ (join difference) e e; position = size (node difference l l) - 1; gathered = gathered-whole (node difference l l) (o, o) }
+          record { tree = node difference l l; is = ap₂ (join minus) e e; position = size (node difference l l) - 1; gathered = gathered-whole (node difference l l) (o, o) }
 
       constant-gathered : GatheredSome m (constantTree Ta ms us)
       unfolding constantTree
-      constant-gathered = join-right union (build choose (length us) Absent (firstRows Ta ms us) us none) (join difference (single (getD ms 0 0)) (single (getD ms 0 0)))
-          (λ e. absurd (union-not e)) (plain-over none choose (length us) refl first-ready (parts .unmarked)) nothing-gathered
+      constant-gathered = join-right plus (build choose (length us) Absent (firstRows Ta ms us) us none) (join minus (single (getD ms 0 0)) (single (getD ms 0 0)))
+          (λ e. plus-not e) (plain-over none choose (length us) refl first-ready (parts .unmarked)) nothing-gathered
 
       constant-own : OverOptional (isIn (ms ++ us)) (constantTree Ta ms us)
       unfolding constantTree
       constant-own =
           let s : OverOptional (isIn (ms ++ us)) (single (getD ms 0 0)) = single-over (isIn (ms ++ us)) (getD ms 0 0) mark-group (in-left ms us (getD ms 0 0) mark-in) in
-          join-over (isIn (ms ++ us)) union (build choose (length us) Absent (firstRows Ta ms us) us none) (join difference (single (getD ms 0 0)) (single (getD ms 0 0)))
+          join-over (isIn (ms ++ us)) plus (build choose (length us) Absent (firstRows Ta ms us) us none) (join minus (single (getD ms 0 0)) (single (getD ms 0 0)))
           (build-over (isIn (ms ++ us)) none choose (length us) refl first-ready (λ g q. group-over (isIn (ms ++ us)) none g (parts .other-groups g q) (in-right ms us g q)))
-          (join-over (isIn (ms ++ us)) difference (single (getD ms 0 0)) (single (getD ms 0 0)) s s)
+          (join-over (isIn (ms ++ us)) minus (single (getD ms 0 0)) (single (getD ms 0 0)) s s)
 
       constant-selects : (v : ℕ → Bool) → selectsOptional v (constantTree Ta ms us) ≡ selects v t
       unfolding constantTree
       constant-selects v =
-          join-selects v union (build choose (length us) Absent (firstRows Ta ms us) us none) (join difference (single (getD ms 0 0)) (single (getD ms 0 0)))
+          join-selects v plus (build choose (length us) Absent (firstRows Ta ms us) us none) (join minus (single (getD ms 0 0)) (single (getD ms 0 0)))
           ∙ ap₂ _||_ (plain-selects (λ r. Ta (w * r)) us (parts .other-groups) (ap Ta (mul-zero w) ∙ z) choose none v)
-          (join-selects v difference (single (getD ms 0 0)) (single (getD ms 0 0)) ∙ nothing (selectsOptional v (single (getD ms 0 0))))
+          (join-selects v minus (single (getD ms 0 0)) (single (getD ms 0 0)) ∙ nothing (selectsOptional v (single (getD ms 0 0))))
           ∙ or-false _
           ∙ sym (by-columns 0 0 0 all (rowOf v ms) (rowOf v us) (row-below v ms) (row-below v us) ∙ absorbed (Ta (0 + w * rowOf v us)) (Ta (0 + rowOf v ms)) ∙ ap Ta (omega arith))
           ∙ sym (selects-place v)

@@ -8,7 +8,7 @@ use Prim.Native.Nat.{ℕ, zero, suc, _+_, _-_, _^_, _<_}
 use native.Mathlib.Omega.{arith}
 use lib.ListN.{length, getD, take, drop, length-append, List·getD-append}
 use lib.Seq.{getD-at}
-use Rattle.tree.specs.Tree.{Operator, union, difference, Tree, node, isGroup, isIn}
+use Rattle.tree.specs.Tree.{union, difference, Basic, plus, minus, Tree, node, isGroup, isIn}
 use Rattle.tree.specs.InnerGroups.{Distinct}
 use Rattle.table.specs.InnerTable.{tabulate}
 use Rattle.free_tables.specs.InnerTables.{Table, half, lowRow, firstPart, secondPart, usable, someOn}
@@ -27,6 +27,7 @@ use Rattle.builder.proofs.RowLaws.{half-rows, without-counts, usable-by}
 use Rattle.builder.proofs.TakenLaws.{BelowSays, Taken, is-taken}
 use Rattle.builder.proofs.ReadyLaws.{SplitBuildable, split-buildable, top-may, in-without, variable-in, group-tree, without-last, without-below}
 use Rattle.builder.proofs.BuildLaws.{left-over, right-over, group-over, build-over, build-some, build-dropped, dropped-part}
+use Rattle.columns.proofs.ColumnLaws.{plus-not}
 use Rattle.gather.specs.Gathering.{Gathered}
 use Rattle.gather.proofs.GatheringLaws.{unmarked, gathered-left, gathered-right}
 
@@ -40,9 +41,6 @@ pub record GatheredSome (m : ℕ → Bool) (o : Option Tree) : Type 0 where
 abbrev pub Some : Option Tree → Type 0
 Some o = (t : Tree) × (o ≡ some t)
 
-pub union-not : union ≡ difference → ⊥
-union-not e = let z : _≡_ {A = ℕ} 0 1 = cc in omega arith
-
 no-tree : {t : Tree} → none ≡ some t → ⊥
 no-tree e = let z : _≡_ {A = ℕ} 0 1 = cc in omega arith
 
@@ -50,22 +48,22 @@ module _ {m : ℕ → Bool} where
   gathered-some : {t : Tree} {p : ℕ} → Gathered m t p → GatheredSome m (some t)
   gathered-some {t} {p} g = record { tree = t; is = refl; position = p; gathered = g }
 
-  some-left : (o : Operator) {u : Tree} {p : ℕ} (b : Option Tree) → Gathered m u p → OverOptional (unmarked m) b → GatheredSome m (join o (some u) b)
-  some-left union none g h = gathered-some g
-  some-left union (some b) g h = gathered-some (gathered-left union b g h)
-  some-left difference none g h = gathered-some g
-  some-left difference (some b) g h = gathered-some (gathered-left difference b g h)
+  some-left : (o : Basic) {u : Tree} {p : ℕ} (b : Option Tree) → Gathered m u p → OverOptional (unmarked m) b → GatheredSome m (join o (some u) b)
+  some-left plus none g h = gathered-some g
+  some-left plus (some b) g h = gathered-some (gathered-left union b g h)
+  some-left minus none g h = gathered-some g
+  some-left minus (some b) g h = gathered-some (gathered-left difference b g h)
 
-  some-right : (o : Operator) (a : Option Tree) {u : Tree} {p : ℕ} → (o ≡ difference → Some a) → OverOptional (unmarked m) a → Gathered m u p → GatheredSome m (join o a (some u))
-  some-right union none n h g = gathered-some g
-  some-right union (some a) n h g = gathered-some (gathered-right union a h g)
-  some-right difference none n h g = absurd (no-tree (n refl .1))
-  some-right difference (some a) n h g = gathered-some (gathered-right difference a h g)
+  some-right : (o : Basic) (a : Option Tree) {u : Tree} {p : ℕ} → (o ≡ minus → Some a) → OverOptional (unmarked m) a → Gathered m u p → GatheredSome m (join o a (some u))
+  some-right plus none n h g = gathered-some g
+  some-right plus (some a) n h g = gathered-some (gathered-right union a h g)
+  some-right minus none n h g = absurd (no-tree (n refl .1))
+  some-right minus (some a) n h g = gathered-some (gathered-right difference a h g)
 
-  pub join-left : (o : Operator) (a b : Option Tree) → GatheredSome m a → OverOptional (unmarked m) b → GatheredSome m (join o a b)
+  pub join-left : (o : Basic) (a b : Option Tree) → GatheredSome m a → OverOptional (unmarked m) b → GatheredSome m (join o a b)
   join-left o a b g h = subst (λ (x : Option Tree). GatheredSome m (join o x b)) (sym (g .is)) (some-left o b (g .gathered) h)
 
-  pub join-right : (o : Operator) (a b : Option Tree) → (o ≡ difference → Some a) → OverOptional (unmarked m) a → GatheredSome m b → GatheredSome m (join o a b)
+  pub join-right : (o : Basic) (a b : Option Tree) → (o ≡ minus → Some a) → OverOptional (unmarked m) a → GatheredSome m b → GatheredSome m (join o a b)
   join-right o a b n h g = subst (λ (x : Option Tree). GatheredSome m (join o a x)) (sym (g .is)) (some-right o a n h (g .gathered))
 
 -- ---- a form's tree with the holder as its variable
@@ -90,41 +88,41 @@ Kept LessOutside a = Some a
 Kept ReducedUnion a = Unit {0}
 Kept JoinedDifference a = Unit {0}
 
-joined-some : (a x : Option Tree) → Some x → Some (join union a x)
+joined-some : (a x : Option Tree) → Some x → Some (join plus a x)
 joined-some none x s = s
-joined-some (some a) x (t, e) = (node union a t, ap (join union (some a)) e)
+joined-some (some a) x (t, e) = (node union a t, ap (join plus (some a)) e)
 
-left-some : (x a : Option Tree) (form : Form) → Kept form a → Some x → outer form ≡ difference → Some (leftTree form x a)
+left-some : (x a : Option Tree) (form : Form) → Kept form a → Some x → outer form ≡ minus → Some (leftTree form x a)
 left-some x a Drop k s e = absurd k
 left-some x a Less k s e = k
-left-some x a Plus k s e = absurd (union-not e)
-left-some x a ReducedPlus k s e = absurd (union-not e)
+left-some x a Plus k s e = plus-not e
+left-some x a ReducedPlus k s e = plus-not e
 left-some x a JoinedLess k s e = joined-some a x s
 left-some x a LessOutside k s e = k
-left-some x a ReducedUnion k s e = absurd (union-not e)
+left-some x a ReducedUnion k s e = plus-not e
 left-some x a JoinedDifference k s e = joined-some a x s
 
 module _ {m : ℕ → Bool} (x a b : Option Tree) where
   formed-variable : (form : Form) → Keeps form a b → GatheredSome m x → OverOptional (unmarked m) a → OverOptional (unmarked m) b → GatheredSome m (formed form x a b)
   formed-variable Drop k g p q = absurd k
-  formed-variable Less k g p q = join-right difference a (join difference x b) (λ e. k) p (join-left difference x b g q)
-  formed-variable Plus k g p q = join-right union a (join difference x b) (λ e. absurd (union-not e)) p (join-left difference x b g q)
+  formed-variable Less k g p q = join-right minus a (join minus x b) (λ e. k) p (join-left minus x b g q)
+  formed-variable Plus k g p q = join-right plus a (join minus x b) (λ e. plus-not e) p (join-left minus x b g q)
   formed-variable ReducedPlus k g p q = absurd k
   formed-variable JoinedLess k g p q = absurd k
-  formed-variable LessOutside k g p q = join-right difference a (join difference b x) (λ e. k .0) p (join-right difference b x (λ e. k .1) q g)
-  formed-variable ReducedUnion k g p q = join-left union (join difference a x) b (join-right difference a x (λ e. k) p g) q
-  formed-variable JoinedDifference k g p q = join-left difference (join union a x) b (join-right union a x (λ e. absurd (union-not e)) p g) q
+  formed-variable LessOutside k g p q = join-right minus a (join minus b x) (λ e. k .0) p (join-right minus b x (λ e. k .1) q g)
+  formed-variable ReducedUnion k g p q = join-left plus (join minus a x) b (join-right minus a x (λ e. k) p g) q
+  formed-variable JoinedDifference k g p q = join-left minus (join plus a x) b (join-right plus a x (λ e. plus-not e) p g) q
 
   -- the holder in a
   left-first : (form : Form) → GatheredSome m a → OverOptional (unmarked m) x → GatheredSome m (leftTree form x a)
   left-first Drop g p = g
   left-first Less g p = g
   left-first Plus g p = g
-  left-first ReducedPlus g p = join-left difference a x g p
-  left-first JoinedLess g p = join-left union a x g p
+  left-first ReducedPlus g p = join-left minus a x g p
+  left-first JoinedLess g p = join-left plus a x g p
   left-first LessOutside g p = g
-  left-first ReducedUnion g p = join-left difference a x g p
-  left-first JoinedDifference g p = join-left union a x g p
+  left-first ReducedUnion g p = join-left minus a x g p
+  left-first JoinedDifference g p = join-left plus a x g p
 
   formed-first : (form : Form) → GatheredSome m a → OverOptional (unmarked m) x → OverOptional (unmarked m) b → GatheredSome m (formed form x a b)
   formed-first form g p q = join-left (outer form) (leftTree form x a) (rightTree form x b) (left-first form g p) (right-over (unmarked m) x none b p tt q form)
@@ -132,11 +130,11 @@ module _ {m : ℕ → Bool} (x a b : Option Tree) where
   -- the holder in b
   second-gathered : (form : Form) → Kept form a → GatheredSome m b → Some x → OverOptional (unmarked m) x → GatheredSome m (rightTree form x b)
   second-gathered Drop k g s p = absurd k
-  second-gathered Less k g s p = join-right difference x b (λ e. s) p g
-  second-gathered Plus k g s p = join-right difference x b (λ e. s) p g
-  second-gathered ReducedPlus k g s p = join-right difference x b (λ e. s) p g
-  second-gathered JoinedLess k g s p = join-right difference x b (λ e. s) p g
-  second-gathered LessOutside k g s p = join-left difference b x g p
+  second-gathered Less k g s p = join-right minus x b (λ e. s) p g
+  second-gathered Plus k g s p = join-right minus x b (λ e. s) p g
+  second-gathered ReducedPlus k g s p = join-right minus x b (λ e. s) p g
+  second-gathered JoinedLess k g s p = join-right minus x b (λ e. s) p g
+  second-gathered LessOutside k g s p = join-left minus b x g p
   second-gathered ReducedUnion k g s p = g
   second-gathered JoinedDifference k g s p = g
 
@@ -231,7 +229,7 @@ module _ (h : Option Tree) (choice : Holder → Table → ℕ → ℕ) where
       let w = end-without us n e in
       let half-is : half t ≡ 2 ^ n = half-rows (t .on) n (r .rows ∙ ap (λ (k : ℕ). 2 ^ k) l) in
       let a = absent-some n (without n (us ++ (0 ∷ []))) us w e (dropped-part n l r) d (subst (λ (k : ℕ). someOn (firstPart Drop t k) ≡ true) half-is s) in
-      (a .0, build-dropped h choice n r ∙ ap (λ (x : Option Tree). join union x none) (a .1))
+      (a .0, build-dropped h choice n r ∙ ap (λ (x : Option Tree). join plus x none) (a .1))
 
 module _ {m : ℕ → Bool} (h : Option Tree) (choice : Holder → Table → ℕ → ℕ) where
   -- a tree over unmarked groups
@@ -244,7 +242,7 @@ module _ {m : ℕ → Bool} (h : Option Tree) (choice : Holder → Table → ℕ
       let l = end-length us n e in
       let w = end-without us n e in
       subst (OverOptional (unmarked m)) (sym (build-dropped h choice n r))
-      (join-over (unmarked m) union (build choice n Absent (firstPart Drop t (2 ^ n)) (without n (us ++ (0 ∷ []))) h) none
+      (join-over (unmarked m) plus (build choice n Absent (firstPart Drop t (2 ^ n)) (without n (us ++ (0 ∷ []))) h) none
       (plain-over n (ap length w ∙ e) (dropped-part n l r) (λ g q. o .unmarked g (ap (λ (ys : List ℕ). isIn ys g) (sym w) ∙ q))) tt)
 
   -- the holder is split

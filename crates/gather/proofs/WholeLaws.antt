@@ -12,7 +12,7 @@ use lib.Dec.{eqb, ltb}
 use borrow.Author.Tests.{lt-ltb, ltb-true, ltb-false, eqb-true, eqb-false, not-false}
 use lib.ListN.{length, getD, take, drop, length-append, length-drop, take-append-drop}
 use lib.Seq.{sets, take-all, take-at, drop-at, length-take-le}
-use Rattle.tree.specs.Tree.{Tree, sign, union, difference, isGroup, postfix, size, mostNodes, Over, leaves, isIn, collect, groups, mostGroups}
+use Rattle.tree.specs.Tree.{Tree, sign, union, plus, minus, isGroup, postfix, size, mostNodes, Over, leaves, isIn, collect, groups, mostGroups}
 use Rattle.tree.specs.InnerGroups.{Distinct, leavesIn, Collected}
 use Rattle.tree.specs.Parse.{treeOf}
 use Rattle.tree.specs.Writing.{over}
@@ -165,8 +165,8 @@ module _ {list gs : List ℕ} {m : ℕ} (o : Ordered list gs m) where
           let a = build-size choose (length (drop m gs)) none (r .table .table) refl tt in
           omega (
             arith,
-            join-size union (build choose (length (drop m gs)) Absent (firstRows (rowsOf rows) (take m gs) (drop m gs)) (drop m gs) none) (join difference x x),
-            join-size difference x x,
+            join-size plus (build choose (length (drop m gs)) Absent (firstRows (rowsOf rows) (take m gs) (drop m gs)) (drop m gs) none) (join minus x x),
+            join-size minus x x,
             single-small (getD (take m gs) 0 0),
             a,
             sizes .1,

@@ -1,6 +1,6 @@
 -- The loop of `eval`: a pass whose stack is the latest operand's value on top of an array's first values. Below the operands' values
 -- there is one more, the value that was held before the first entry.
-use mathlib.Core.Path.{_≡_, refl, ap, ap₂, _∙_}
+use mathlib.Core.Path.{_≡_, refl, ap₂, _∙_}
 use mathlib.Core.Bool.{Bool, false}
 use mathlib.Core.List.{List, [], _∷_, append-nil}
 use mathlib.Core.Option.{Option, some}
@@ -8,11 +8,10 @@ use Prim.Native.Nat.{ℕ, zero, suc, _+_, _-_, _<_, _≤_}
 use native.Mathlib.Omega.{arith}
 use lib.Dec.{T}
 use lib.ListN.{length, getD, set, drop, drop-of-length-le}
-use Rattle.tree.specs.Tree.{Operator, union, difference, sign, Tree, leaf, node, isGroup, postfix, size, apply, selects}
+use Rattle.tree.specs.Tree.{Operator, union, sign, Tree, leaf, node, isGroup, postfix, size, apply, selects}
 use Rattle.tree.specs.InnerPass.{fold}
 use Rattle.tree.specs.Pass.{operated, andThen, pass}
 use Rattle.tree.proofs.PassLaws.{stacked, stacked-push, pass-postfix, entry-leaf, entry-sign, here}
-use Rattle.table.specs.InnerTable.{operatorOf}
 use Rattle.table.proofs.EntryLaws.{group-at, operator-at}
 
 -- evaluation is the pass with these values
@@ -26,10 +25,6 @@ fold-selects : (v : ℕ → Bool) (i : ℕ) (t : Tree) → fold (leafValue v) no
 unfolding fold selects
 fold-selects v i (leaf g h) = refl
 fold-selects v i (node o l r) = ap₂ (apply o) (fold-selects v i l) (fold-selects v (i + size l) r)
-
-operator-of : (x : ℕ) (o : Operator) → x ≡ sign o → operatorOf x ≡ o
-operator-of x union e = ap operatorOf e
-operator-of x difference e = ap operatorOf e
 
 -- the list is the tree's, and what is left of it from i on comes to the tree's value
 pub record Evaluating (v : ℕ → Bool) (t : Tree) (list : List ℕ) (i : ℕ) (waiting : List Bool) (top : ℕ) (value : Bool) : Type 0 where
@@ -55,7 +50,7 @@ module _ {v : ℕ → Bool} {t : Tree} {list : List ℕ} {i : ℕ} {waiting : Li
 
   -- a leaf with its operator behind it: what the operator makes of the value and the leaf
   pub evaluating-both : (b c : Bool) → i < length list → getD list i 0 < sign union → b ≡ v (getD list i 0)
-      → i + 1 < length list → sign union ≤ getD list (i + 1) 0 → c ≡ apply (operatorOf (getD list (i + 1) 0)) value b
+      → i + 1 < length list → sign union ≤ getD list (i + 1) 0 → ((o : Operator) → getD list (i + 1) 0 ≡ sign o → c ≡ apply o value b)
       → Evaluating v t list (i + 2) waiting top c
   unfolding pass
   evaluating-both b c h l e h′ l′ f =
@@ -63,7 +58,7 @@ module _ {v : ℕ → Bool} {t : Tree} {list : List ℕ} {i : ℕ} {waiting : Li
       let two : i + 2 ≡ i + 1 + 1 = omega arith in
       record {
         whole = p .whole;
-        left = rw (two, f, e, operator-of _ (o .0) (o .1))
+        left = rw (two, f (o .0) (o .1), e)
             (rw (here list i h, entry-leaf (getD list i 0) (group-at list t (p .whole) i h l), here list (i + 1) h′, o .1, entry-sign (o .0)) at (p .left));
       }
 
@@ -74,10 +69,10 @@ module _ {v : ℕ → Bool} {t : Tree} {list : List ℕ} {i : ℕ} {waiting : Li
   operating o zero f e = absurd (let w : _≡_ {A = ℕ} 0 1 = cc in omega arith)
   operating o (suc k) f e = let q : suc k - 1 ≡ k = omega arith in (omega arith, rw q e)
 
-  pub evaluating-operator : (b : Bool) → i < length list → sign union ≤ getD list i 0 → b ≡ apply (operatorOf (getD list i 0)) (getD waiting (top - 1) false) value
-      → (1 ≤ top) × Evaluating v t list (i + 1) waiting (top - 1) b
+  pub evaluating-operator : i < length list → sign union ≤ getD list i 0
+      → (1 ≤ top) × ((b : Bool) → ((o : Operator) → getD list i 0 ≡ sign o → b ≡ apply o (getD waiting (top - 1) false) value) → Evaluating v t list (i + 1) waiting (top - 1) b)
   unfolding pass
-  evaluating-operator b h l e =
+  evaluating-operator h l =
       let o = operator-at list t (p .whole) i h l in
       let on = operating (o .0) top _ (rw (here list i h, o .1, entry-sign (o .0)) at (p .left)) in
-      (on .0, record { whole = p .whole; left = rw (e, operator-of _ (o .0) (o .1)) (on .1) })
+      (on .0, λ b e. record { whole = p .whole; left = rw (e (o .0) (o .1)) (on .1) })

@@ -5,7 +5,7 @@ use mathlib.Core.List.{List, [], _∷_}
 use Prim.Native.Nat.{ℕ, zero, suc, _/_, _%_, _^_, _≤_, _<_}
 use lib.Dec.{eqb}
 use lib.ListN.{length, getD}
-use Rattle.tree.specs.Tree.{Operator, union, difference, sign, Tree, postfix, mostNodes, mostGroups, selects}
+use Rattle.tree.specs.Tree.{Tree, postfix, mostNodes, mostGroups, selects}
 
 -- "256 rows"
 abbrev pub rowCount : ℕ
@@ -34,10 +34,6 @@ abbrev pub rowsOf : List Bool → ℕ → Bool
 rowsOf r i = getD r i false
 
 -- ---- what the functions say of each other
--- an operator by its number
-abbrev pub operatorOf : ℕ → Operator
-operatorOf x = cond (eqb x (sign union)) union difference
-
 -- the list is a tree's, of 01's size
 abbrev pub Listed : List ℕ → Type 0
 Listed list = (t : Tree) × (list ≡ postfix t) × (length list ≤ mostNodes)

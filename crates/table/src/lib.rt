@@ -3,8 +3,8 @@ ghost use mathlib.Core.Path.{_≡_};
 ghost use mathlib.Core.List.{List};
 ghost use Prim.Native.Nat.{ℕ, _≤_, _<_};
 ghost use lib.ListN.{length, getD};
-ghost use Rattle.tree.specs.Tree.{union, sign, Tree, mostNodes, postfix, apply};
-ghost use Rattle.table.specs.InnerTable.{rowCount, valueAt, table, operatorOf, Listed, IsPlace, ArePlaces};
+ghost use Rattle.tree.specs.Tree.{Operator, union, sign, Tree, mostNodes, postfix, apply};
+ghost use Rattle.table.specs.InnerTable.{rowCount, valueAt, table, Listed, IsPlace, ArePlaces};
 
 pub const ROWS: usize = 256;
 
@@ -45,7 +45,7 @@ fn places(list: &[u16], groups: &[u16]) -> [u8; tree::MOST_NODES]
 
 // What the operator x makes of its operands' values, without a branch: operators come in any order.
 fn combine(x: u16, a: bool, b: bool) -> bool
-    ensures { λ r. ⌜ r ≡ apply (operatorOf x) a b ⌝ }
+    ensures { λ r. ⌜ ((o : Operator) → x ≡ sign o → r ≡ apply o a b) ⌝ }
 {
     (a & !b) | (b & (x == tree::UNION))
 }

@@ -35,6 +35,16 @@ abbrev pub sign : Operator → ℕ
 sign union = 65001
 sign difference = 65002
 
+-- the two of them that move entries have, and the trees that gathering builds: "`+` for union and `-` for difference"
+pub data Basic : Type 0 where
+  plus : Basic
+  minus : Basic
+
+-- as an operator of trees
+abbrev pub operatorOf : Basic → Operator
+operatorOf plus = union
+operatorOf minus = difference
+
 -- A leaf carries the fact that its number is a group, so that a `Tree` is exactly a tree of 01, of any size.
 pub data Tree : Type 0 where
   leaf : (g : ℕ) → T (isGroup g) → Tree

@@ -1,21 +1,22 @@
 use mathlib.Core.Path.{_≡_, refl}
-use mathlib.Core.Bool.{Bool, true, false, not, cond, _&&_, _||_}
-use Rattle.tree.specs.Tree.{union, difference, apply}
+use mathlib.Core.Bool.{Bool, true, false, not, _&&_, _||_}
+use lib.Dec.{eqb}
+use Rattle.tree.specs.Tree.{Operator, union, difference, sign, apply}
 use Rattle.table.proofs.combine.Statement.{statement}
 use Rattle.table.proofs.combine.Tie as tie
 
-both : (a b joins : Bool) → ((a && not b) || (b && joins)) ≡ apply (cond joins union difference) a b
-both true true true = refl
-both true true false = refl
-both true false true = refl
-both true false false = refl
-both false true true = refl
-both false true false = refl
-both false false true = refl
-both false false false = refl
+combined : (o : Operator) (a b : Bool) → ((a && not b) || (b && eqb (sign o) (sign union))) ≡ apply o a b
+combined union true true = refl
+combined union true false = refl
+combined union false true = refl
+combined union false false = refl
+combined difference true true = refl
+combined difference true false = refl
+combined difference false true = refl
+combined difference false false = refl
 
 returns : tie.Need-returns
-returns c = both (c .args .a) (c .args .b) _
+returns c = λ o e. rw e (combined o (c .args .a) (c .args .b))
 
 pub combine-spec : {M : Type 1} → statement M
 combine-spec = tie.close (tie.spec returns)

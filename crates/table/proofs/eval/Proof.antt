@@ -1,4 +1,4 @@
-use mathlib.Core.Path.{_≡_, refl}
+use mathlib.Core.Path.{_≡_, refl, _∙_}
 use mathlib.Core.List.{List}
 use Prim.Native.Nat.{ℕ, _≤_, _-_}
 use native.Mathlib.Omega.{arith}
@@ -87,13 +87,13 @@ loop-again-2 c =
       omega arith,
       loop .inv .2,
       λ t groups e p. evaluating-both (loop .inv .3 t groups e p) _ _ less (c .before .before .before .before .if1 .taken) (p .each (loop .i) less .says _ (pre .1))
-          (next .0) (omega (arith, next .1, next .2)) (rw (next .2) at (c .combine .ensures)),
+          (next .0) (omega (arith, next .1, next .2)) (λ o k. c .combine .ensures o (next .2 ∙ k)),
     )
 
 sub-top : tie.Need-sub-top Inv-loop μ-loop
 sub-top c =
     let pre = c .before .before .before .before .before .pre in
-    evaluating-operator (c .before .before .before .loop .inv .3 (pre .0 .0) (pre .2 .0) (pre .0 .1) (pre .2 .1)) _ (c .before .before .loop-test .taken) (c .if1 .left) refl .0
+    evaluating-operator (c .before .before .before .loop .inv .3 (pre .0 .0) (pre .2 .0) (pre .0 .1) (pre .2 .1)) (c .before .before .loop-test .taken) (c .if1 .left) .0
 
 array-read-combine : tie.Need-array-read-combine Inv-loop μ-loop
 array-read-combine c = omega arith
@@ -113,7 +113,7 @@ loop-again-3 c =
       omega arith,
       omega arith,
       loop .inv .2,
-      λ t groups e p. evaluating-operator (loop .inv .3 t groups e p) _ (c .before .before .before .loop-test .taken) (c .before .if1 .left) (c .combine2 .ensures) .1,
+      λ t groups e p. evaluating-operator (loop .inv .3 t groups e p) (c .before .before .before .loop-test .taken) (c .before .if1 .left) .1 _ (c .combine2 .ensures),
     )
 
 returns : tie.Need-returns Inv-loop μ-loop
