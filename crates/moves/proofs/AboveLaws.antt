@@ -7,7 +7,7 @@ use native.Mathlib.Omega.{arith}
 use borrow.Author.Tests.{lt-ltb, le-ltb, le-leb, lt-leb, eq-eqb, ne-eqb}
 use lib.Dec.{T}
 use lib.ListN.{length, getD, drop, replicate, drop-of-length-le}
-use Rattle.tree.specs.Tree.{Operator, union, difference}
+use Rattle.tree.specs.Tree.{Basic, plus, minus, operatorOf}
 use Rattle.tree.specs.Context.{left, right}
 use Rattle.tree.specs.InnerPart.{kindOf}
 use Rattle.tree.proofs.TreeLaws.{and-left}
@@ -69,25 +69,25 @@ kinds-past (join o p q) n w =
     less : n + 1 + 1 - 1 ≡ n + 1
     less = omega arith
 
-    joined : (o : Operator) → kindsAfter (n + 1 + 1) (operatorSign o ∷ w) ≡ kindsAfter (n + 1) w
-    joined union = unfold kindsAfter in simp (le-ltb (n + 1 + 1) 2 (omega arith), less)
-    joined difference = unfold kindsAfter in simp (le-ltb (n + 1 + 1) 2 (omega arith), less)
+    joined : (o : Basic) → kindsAfter (n + 1 + 1) (operatorSign o ∷ w) ≡ kindsAfter (n + 1) w
+    joined plus = unfold kindsAfter in simp (le-ltb (n + 1 + 1) 2 (omega arith), less)
+    joined minus = unfold kindsAfter in simp (le-ltb (n + 1 + 1) 2 (omega arith), less)
 
-kind-left : (o : Operator) (w : List ℕ) → kindsAfter 1 (operatorSign o ∷ w) ≡ kindOf left o ∷ kindsAfter 0 w
+kind-left : (o : Basic) (w : List ℕ) → kindsAfter 1 (operatorSign o ∷ w) ≡ kindOf left (operatorOf o) ∷ kindsAfter 0 w
 unfolding kindsAfter
-kind-left union w = refl
-kind-left difference w = refl
+kind-left plus w = refl
+kind-left minus w = refl
 
-kind-right : (o : Operator) (w : List ℕ) → kindsAfter 0 (operatorSign o ∷ w) ≡ kindOf right o ∷ kindsAfter 0 w
+kind-right : (o : Basic) (w : List ℕ) → kindsAfter 0 (operatorSign o ∷ w) ≡ kindOf right (operatorOf o) ∷ kindsAfter 0 w
 unfolding kindsAfter
-kind-right union w = refl
-kind-right difference w = refl
+kind-right plus w = refl
+kind-right minus w = refl
 
 -- A is not in the word of a formula that does not name it
-trailing-sign : (o : Operator) (w : List ℕ) → trailing (operatorSign o ∷ w) ≡ trailing w
+trailing-sign : (o : Basic) (w : List ℕ) → trailing (operatorSign o ∷ w) ≡ trailing w
 unfolding trailing
-trailing-sign union w = refl
-trailing-sign difference w = refl
+trailing-sign plus w = refl
+trailing-sign minus w = refl
 
 trailing-past : (p : Formula) → namesA p ≡ false → (w : List ℕ) → trailing (word p ++ w) ≡ trailing w
 trailing-past A e w = absurd (true≢false e)
@@ -112,15 +112,15 @@ kinds-above (join o p q) t w =
         → (T (once q) → kindsAfter 0 (trailing (word q ++ (operatorSign o ∷ w))) ≡ kindNumbers q ++ kindsAfter 0 (operatorSign o ∷ w))
         → (m : Bool) → namesA p ≡ m → T (cond m (once p && not (namesA q)) (once q))
         → kindsAfter 0 (trailing (word p ++ (word q ++ (operatorSign o ∷ w))))
-        ≡ cond m (kindNumbers p ++ (kindOf left o ∷ [])) (kindNumbers q ++ (kindOf right o ∷ [])) ++ kindsAfter 0 w
+        ≡ cond m (kindNumbers p ++ (kindOf left (operatorOf o) ∷ [])) (kindNumbers q ++ (kindOf right (operatorOf o) ∷ [])) ++ kindsAfter 0 w
     go hp hq true e t =
         hp (and-left (once p) (not (namesA q)) t)
         ∙ ap (λ (x : List ℕ). kindNumbers p ++ x) (kinds-past q 0 (operatorSign o ∷ w) ∙ kind-left o w)
-        ∙ sym (append-assoc (kindNumbers p) (kindOf left o ∷ []) (kindsAfter 0 w))
+        ∙ sym (append-assoc (kindNumbers p) (kindOf left (operatorOf o) ∷ []) (kindsAfter 0 w))
     go hp hq false e t =
         ap (kindsAfter 0) (trailing-past p e (word q ++ (operatorSign o ∷ w))) ∙ hq t
         ∙ ap (λ (x : List ℕ). kindNumbers q ++ x) (kind-right o w)
-        ∙ sym (append-assoc (kindNumbers q) (kindOf right o ∷ []) (kindsAfter 0 w))
+        ∙ sym (append-assoc (kindNumbers q) (kindOf right (operatorOf o) ∷ []) (kindsAfter 0 w))
 
 kinds-blanks : (k : ℕ) → kindsAfter 0 (replicate k blank) ≡ []
 unfolding kindsAfter

@@ -2,7 +2,7 @@
 use mathlib.Core.Path.{_≡_, refl}
 use mathlib.Core.Bool.{Bool, true, false, _&&_, Bool·beq, false≢true}
 use lib.Dec.{T}
-use Rattle.tree.specs.Tree.{Operator, union, difference}
+use Rattle.tree.specs.Tree.{Basic, plus, minus}
 use Rattle.tree.specs.Context.{Side, left, right}
 use Rattle.tree.proofs.TreeLaws.{and-left, and-right}
 
@@ -39,11 +39,11 @@ at-filling f t a b c d =
     (at-bool (λ a. bothBools (λ b. bothBools (λ c. bothBools (λ d. f a b c d)))) t a) b) c) d
 
 -- the four kinds of a frame
-abbrev pub allKinds : (Side → Operator → Bool) → Bool
-allKinds f = (f left union && f left difference) && (f right union && f right difference)
+abbrev pub allKinds : (Side → Basic → Bool) → Bool
+allKinds f = (f left plus && f left minus) && (f right plus && f right minus)
 
-pub at-kind : (f : Side → Operator → Bool) → T (allKinds f) → (s : Side) (o : Operator) → T (f s o)
-at-kind f t left union = and-left (f left union) _ (and-left (f left union && f left difference) _ t)
-at-kind f t left difference = and-right (f left union) _ (and-left (f left union && f left difference) _ t)
-at-kind f t right union = and-left (f right union) _ (and-right (f left union && f left difference) _ t)
-at-kind f t right difference = and-right (f right union) _ (and-right (f left union && f left difference) _ t)
+pub at-kind : (f : Side → Basic → Bool) → T (allKinds f) → (s : Side) (o : Basic) → T (f s o)
+at-kind f t left plus = and-left (f left plus) _ (and-left (f left plus && f left minus) _ t)
+at-kind f t left minus = and-right (f left plus) _ (and-left (f left plus && f left minus) _ t)
+at-kind f t right plus = and-left (f right plus) _ (and-right (f left plus && f left minus) _ t)
+at-kind f t right minus = and-right (f right plus) _ (and-right (f left plus && f left minus) _ t)

@@ -5,7 +5,7 @@ use mathlib.Core.Bool.{Bool, true, false, _&&_}
 use mathlib.Core.List.{List, [], _∷_, _++_}
 use Prim.Native.Nat.{ℕ}
 use lib.Dec.{T}
-use Rattle.tree.specs.Tree.{Operator, Tree, leaf, node, selects, apply, Over}
+use Rattle.tree.specs.Tree.{Operator, operatorOf, Tree, leaf, node, selects, apply, Over}
 use Rattle.tree.specs.Context.{left, right, Frame, frame, plug}
 use Rattle.tree.proofs.ContextLaws.{plug-append}
 use Rattle.moves.specs.Moves.{Formula, A, B, C, D, join, value, framesOf}
@@ -25,7 +25,7 @@ module _ (f : Operator → Bool → Bool → Bool) (v : ℕ → Bool) where
   evaluate-value a b c d B = refl
   evaluate-value a b c d C = refl
   evaluate-value a b c d D = refl
-  evaluate-value a b c d (join o p q) = ap₂ (f o) (evaluate-value a b c d p) (evaluate-value a b c d q)
+  evaluate-value a b c d (join o p q) = ap₂ (f (operatorOf o)) (evaluate-value a b c d p) (evaluate-value a b c d q)
 
   evaluate-plug : (t u : Tree) (c : List Frame) → evaluate t ≡ evaluate u → evaluate (plug t c) ≡ evaluate (plug u c)
   unfolding evaluate plug

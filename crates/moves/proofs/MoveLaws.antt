@@ -7,7 +7,7 @@ use Prim.Native.Nat.{ℕ, _+_}
 use native.Mathlib.Omega.{arith}
 use lib.Dec.{T, eqb, eqb→eq, leb}
 use lib.ListN.{length, length-append}
-use Rattle.tree.specs.Tree.{Operator, Tree, node, apply}
+use Rattle.tree.specs.Tree.{Operator, Basic, operatorOf, Tree, node, apply}
 use Rattle.tree.specs.Context.{Side, left, right, frame, sided, plug}
 use Rattle.tree.proofs.TreeLaws.{and-left, and-right}
 use Rattle.tree.proofs.ContextLaws.{plug-append}
@@ -39,18 +39,18 @@ abbrev pub replaces : Formula → Formula → Bool
 replaces p l = (once p && once l) && (eqb (levelOfA p + 1) (levelOfA l) && (agree apply p l && agree both p l))
 
 -- T, and T with D, as formulas
-abbrev pub formulaT : Side → Operator → Side → Operator → Formula
+abbrev pub formulaT : Side → Basic → Side → Basic → Formula
 formulaT s o t q = sided t (join q) (sided s (join o) A B) C
 
-abbrev pub formulaTWithD : Side → Operator → Side → Operator → Side → Operator → Formula
+abbrev pub formulaTWithD : Side → Basic → Side → Basic → Side → Basic → Formula
 formulaTWithD s o t q u w = sided u (join w) (formulaT s o t q) D
 
-abbrev pub right-move : Side → Operator → Side → Operator → Move → Bool
+abbrev pub right-move : Side → Basic → Side → Basic → Move → Bool
 right-move s o t q (replaceT p) = replaces p (formulaT s o t q)
 right-move s o t q (replaceTWithD w x y z) = allKinds (λ u k. replaces (under (inputOf u k) w x y z) (formulaTWithD s o t q u k))
 
 -- the whole table
-pub every-move : (s : Side) (o : Operator) (t : Side) (q : Operator) → T (right-move s o t q (moveOf (stateOf s o t q)))
+pub every-move : (s : Side) (o : Basic) (t : Side) (q : Basic) → T (right-move s o t q (moveOf (stateOf s o t q)))
 every-move s o t q =
     at-kind (λ t q. right-move s o t q (moveOf (stateOf s o t q)))
     (at-kind (λ s o. allKinds (λ t q. right-move s o t q (moveOf (stateOf s o t q)))) tt s o) t q
@@ -108,8 +108,8 @@ plug-frames a b c d (join o p q) t = go (plug-frames a b c d p) (plug-frames a b
   where
     go : (T (once p) → plug a (framesOf b c d p) ≡ value node a b c d p) → (T (once q) → plug a (framesOf b c d q) ≡ value node a b c d q)
         → (m : Bool) → namesA p ≡ m → T (cond m (once p && not (namesA q)) (once q))
-        → plug a (cond m (framesOf b c d p ++ (frame left o (value node b b c d q) ∷ [])) (framesOf b c d q ++ (frame right o (value node b b c d p) ∷ [])))
-        ≡ node o (value node a b c d p) (value node a b c d q)
+        → plug a (cond m (framesOf b c d p ++ (frame left (operatorOf o) (value node b b c d q) ∷ [])) (framesOf b c d q ++ (frame right (operatorOf o) (value node b b c d p) ∷ [])))
+        ≡ node (operatorOf o) (value node a b c d p) (value node a b c d q)
     go hp hq true e t =
         plug-append a (framesOf b c d p) _
         ∙ cc (hp (and-left (once p) (not (namesA q)) t), without-a a b b c d q (and-right (once p) (not (namesA q)) t))
@@ -124,20 +124,20 @@ frames-level b c d D = refl
 frames-level b c d (join o p q) = go (frames-level b c d p) (frames-level b c d q) (namesA p)
   where
     go : length (framesOf b c d p) ≡ levelOfA p → length (framesOf b c d q) ≡ levelOfA q → (m : Bool)
-        → length (cond m (framesOf b c d p ++ (frame left o (value node b b c d q) ∷ [])) (framesOf b c d q ++ (frame right o (value node b b c d p) ∷ [])))
+        → length (cond m (framesOf b c d p ++ (frame left (operatorOf o) (value node b b c d q) ∷ [])) (framesOf b c d q ++ (frame right (operatorOf o) (value node b b c d p) ∷ [])))
         ≡ cond m (levelOfA p) (levelOfA q) + 1
     go h k true = simp length-append (omega arith)
     go h k false = simp length-append (omega arith)
 
 -- the frames that T, and T with D, stand for
-pub frames-t : (s : Side) (o : Operator) (t : Side) (q : Operator) (b c d : Tree) → framesOf b c d (formulaT s o t q) ≡ frame s o b ∷ (frame t q c ∷ [])
+pub frames-t : (s : Side) (o : Basic) (t : Side) (q : Basic) (b c d : Tree) → framesOf b c d (formulaT s o t q) ≡ frame s (operatorOf o) b ∷ (frame t (operatorOf q) c ∷ [])
 frames-t left o left q b c d = refl
 frames-t left o right q b c d = refl
 frames-t right o left q b c d = refl
 frames-t right o right q b c d = refl
 
-pub frames-t-with-d : (s : Side) (o : Operator) (t : Side) (q : Operator) (u : Side) (w : Operator) (b c d : Tree)
-    → framesOf b c d (formulaTWithD s o t q u w) ≡ frame s o b ∷ (frame t q c ∷ (frame u w d ∷ []))
+pub frames-t-with-d : (s : Side) (o : Basic) (t : Side) (q : Basic) (u : Side) (w : Basic) (b c d : Tree)
+    → framesOf b c d (formulaTWithD s o t q u w) ≡ frame s (operatorOf o) b ∷ (frame t (operatorOf q) c ∷ (frame u (operatorOf w) d ∷ []))
 frames-t-with-d left o left q left w b c d = refl
 frames-t-with-d left o left q right w b c d = refl
 frames-t-with-d left o right q left w b c d = refl

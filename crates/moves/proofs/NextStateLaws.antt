@@ -3,16 +3,16 @@ use mathlib.Core.Path.{_≡_, refl, sym, ap, ap₂, _∙_}
 use mathlib.Core.Bool.{Bool, true, false, cond}
 use mathlib.Core.Option.{some}
 use mathlib.Core.List.{List, [], _∷_, _++_, map, map-append}
-use Prim.Native.Nat.{ℕ, _-_}
+use Prim.Native.Nat.{ℕ, _-_, _%_, _≤_}
 use native.Mathlib.Omega.{arith}
 use lib.Dec.{leb}
 use lib.ListN.{length, getD, length-append}
-use Rattle.tree.specs.Tree.{Operator}
+use Rattle.tree.specs.Tree.{Operator, Basic, operatorOf}
 use Rattle.tree.specs.Context.{Side, left, right}
 use Rattle.tree.specs.InnerPart.{kindOf}
-use Rattle.moves.specs.Moves.{Formula, A, B, C, D, join, namesA, above, State, stateOf, Input, inputA, inputB, inputC, inputD, Move, replaceT, replaceTWithD, moveOf}
+use Rattle.moves.specs.Moves.{Formula, A, B, C, D, join, namesA, above, State, basic, stateWith, Input, inputA, inputB, inputC, inputD, Move, replaceT, replaceTWithD, moveOf}
 use Rattle.moves.specs.NextState.{Kind, kind, kindOfInput, stateBelow, kindsAbove, leftAbove, stateAfter, nextState}
-use Rattle.moves.specs.InnerEntries.{stateNumber, inputNumber, entryOf}
+use Rattle.moves.specs.InnerEntries.{stateNumber, optionalNumber, inputNumber, entryOf}
 use Rattle.moves.specs.InnerWords.{word, padded, rowSigns}
 use Rattle.moves.specs.InnerAbove.{kindNumbers, AboveIs}
 use Rattle.moves.specs.declared.AboveA.{AboveA}
@@ -20,15 +20,15 @@ use Rattle.moves.proofs.TableLaws.{same-entry}
 use Rattle.moves.proofs.MoveLaws.{once-entry, alone, alone-number}
 
 -- "It is to be proved that in all 36 cases this is Table 10's": both tables, computed
-pub table-10 : (x : State) (i : Input) → stateAfter x i ≡ some (nextState x i)
-table-10 = same-entry stateAfter (λ x i. some (nextState x i)) refl
+pub table-10 : (x : State) (i : Input) → stateAfter x (some i) ≡ some (nextState x i)
+table-10 = same-entry (λ x i. stateAfter x (some i)) (λ x i. some (nextState x i)) refl
 
 -- each move of the table leaves two frames above A
 pub two-left : (x : State) (i : Input) → length (leftAbove (moveOf x) i) ≡ 2
 two-left = same-entry (λ x i. length (leftAbove (moveOf x) i)) (λ x i. 2) refl
 
 -- ---- what is made of the frames above A does not ask how they were made
-pub map-above : {X Y : Type 0} (g : X → Y) (f : Side → Operator → Formula → X) (p : Formula) → map g (above f p) ≡ above (λ s o q. g (f s o q)) p
+pub map-above : {X Y : Type 0} (g : X → Y) (f : Side → Basic → Formula → X) (p : Formula) → map g (above f p) ≡ above (λ s o q. g (f s o q)) p
 map-above g f A = refl
 map-above g f B = refl
 map-above g f C = refl
@@ -57,28 +57,35 @@ input-kind inputC = refl
 input-kind inputD = refl
 
 -- from the numbers of the two innermost frames
-module _ (own second r : ℕ) (y : State)
-    (f : (s : Side) (o : Operator) (t : Side) (q : Operator) → own ≡ kindOf s o → second ≡ kindOf t q → r ≡ stateNumber (stateOf s o t q)) where
-  below : (ks : List Kind) → own ≡ getD (map kindNumber ks) 0 0 → second ≡ getD (map kindNumber ks) 1 0 → stateBelow ks ≡ some y → r ≡ stateNumber y
-  below [] e g h = absurd (let z : _≡_ {A = ℕ} 0 1 = cc in omega arith)
-  below (k ∷ []) e g h = absurd (let z : _≡_ {A = ℕ} 0 1 = cc in omega arith)
-  below (kind s o ∷ (kind t q ∷ ks)) e g h = let z : stateOf s o t q ≡ y = cc in f s o t q e g ∙ ap stateNumber z
+module _ (own second r : ℕ)
+    (f : (s : Side) (o : Operator) (t : Side) (q : Operator) → own ≡ kindOf s o → second ≡ kindOf t q → r ≡ optionalNumber (stateWith s (basic o) t (basic q))) where
+  below : (ks : List Kind) → 2 ≤ length ks → own ≡ getD (map kindNumber ks) 0 0 → second ≡ getD (map kindNumber ks) 1 0 → r ≡ optionalNumber (stateBelow ks)
+  below [] l e g = absurd (omega arith)
+  below (k ∷ []) l e g = absurd (omega arith)
+  below (kind s o ∷ (kind t q ∷ ks)) l e g = f s o t q e g
 
   with-input : (ks : List Kind) (i : Input) → length (ks ++ (kindOfInput i ∷ [])) ≡ 2 → own ≡ getD (map kindNumber ks) 0 0 → second ≡ inputNumber i
-      → stateBelow (ks ++ (kindOfInput i ∷ [])) ≡ some y → r ≡ stateNumber y
-  with-input [] i l e g h = absurd (omega arith)
-  with-input (k ∷ []) i l e g h = below (k ∷ (kindOfInput i ∷ [])) e (g ∙ input-kind i) h
-  with-input (k ∷ (m ∷ ks)) i l e g h = absurd (let z = length-append ks (kindOfInput i ∷ []) in omega arith)
+      → r ≡ optionalNumber (stateBelow (ks ++ (kindOfInput i ∷ [])))
+  with-input [] i l e g = absurd (omega arith)
+  with-input (k ∷ []) i l e g = below (k ∷ (kindOfInput i ∷ [])) (omega arith) e (g ∙ input-kind i)
+  with-input (k ∷ (m ∷ ks)) i l e g = absurd (let z = length-append ks (kindOfInput i ∷ []) in omega arith)
 
   next-by : (m : Move) (i : Input) → length (leftAbove m i) ≡ 2 → own ≡ getD (map kindNumber (kindsAbove (entryOf m i))) 0 0
-      → second ≡ cond (alone m) (inputNumber i) (getD (map kindNumber (kindsAbove (entryOf m i))) 1 0) → stateBelow (leftAbove m i) ≡ some y → r ≡ stateNumber y
-  next-by (replaceT p) i l e g h = with-input (kindsAbove p) i l e g h
-  next-by (replaceTWithD p q s t) i l e g h = below (leftAbove (replaceTWithD p q s t) i) e g h
+      → second ≡ cond (alone m) (inputNumber i) (getD (map kindNumber (kindsAbove (entryOf m i))) 1 0) → r ≡ optionalNumber (stateBelow (leftAbove m i))
+  next-by (replaceT p) i l e g = with-input (kindsAbove p) i l e g
+  next-by (replaceTWithD p q s t) i l e g = below (leftAbove (replaceTWithD p q s t) i) (omega (arith, l)) e g
 
   -- one frame of the entry and the input in states 1 to 4, two frames of the entry in the others
   pub next-is : (x : State) (i : Input) → own ≡ getD (kindNumbers (entryOf (moveOf x) i)) 0 0
-      → second ≡ cond (leb (stateNumber x) 4) (inputNumber i) (getD (kindNumbers (entryOf (moveOf x) i)) 1 0) → stateAfter x i ≡ some y → r ≡ stateNumber y
-  next-is x i e g h =
-      let same : kindNumbers (entryOf (moveOf x) i) ≡ map kindNumber (kindsAbove (entryOf (moveOf x) i)) = sym (map-above kindNumber (λ s o q. kind s o) (entryOf (moveOf x) i)) in
+      → second ≡ cond (leb (stateNumber x) 4) (inputNumber i) (getD (kindNumbers (entryOf (moveOf x) i)) 1 0) → r ≡ optionalNumber (stateAfter x (some i))
+  next-is x i e g =
+      let same : kindNumbers (entryOf (moveOf x) i) ≡ map kindNumber (kindsAbove (entryOf (moveOf x) i)) = sym (map-above kindNumber (λ s o q. kind s (operatorOf o)) (entryOf (moveOf x) i)) in
       next-by (moveOf x) i (two-left x i) (e ∙ ap (λ (ks : List ℕ). getD ks 0 0) same)
-      (g ∙ ap₂ (λ (b : Bool) (ks : List ℕ). cond b (inputNumber i) (getD ks 1 0)) (sym (alone-number x)) same) h
+      (g ∙ ap₂ (λ (b : Bool) (ks : List ℕ). cond b (inputNumber i) (getD ks 1 0)) (sym (alone-number x)) same)
+
+-- an input's number, as the table of entries is read by it
+pub input-rest : (n : ℕ) (i : Input) → n ≡ inputNumber i → n % 4 ≡ inputNumber i
+input-rest n inputA e = rw e
+input-rest n inputB e = rw e
+input-rest n inputC e = rw e
+input-rest n inputD e = rw e

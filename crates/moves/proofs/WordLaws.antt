@@ -9,7 +9,7 @@ use borrow.Author.Tests.{lt-ltb, le-ltb, ne-eqb, eq-eqb}
 use lib.Dec.{T}
 use lib.ListN.{length, getD, take, drop, replicate, length-append, length-take, length-drop, take-append-drop, drop-of-length-le}
 use lib.Seq.{take-suc}
-use Rattle.tree.specs.Tree.{Operator, union, difference, Tree, node, sign, postfix}
+use Rattle.tree.specs.Tree.{Basic, plus, minus, operatorOf, Tree, node, sign, postfix}
 use Rattle.tree.specs.Context.{left, right, Frame, frame, before}
 use Rattle.tree.proofs.TreeLaws.{and-left}
 use Rattle.tree.proofs.PassLaws.{here}
@@ -23,15 +23,12 @@ module _ (l from to : List ℕ) (s : ℕ) where
   unfolding signFor
   sign-part p e h = rw (sym e) (simp (lt-ltb p 4 h))
 
-  pub sign-union : s ≡ operatorSign union → signFor l from to s ≡ sign union ∷ []
+  pub sign-operator : (o : Basic) → s ≡ operatorSign o → signFor l from to s ≡ sign (operatorOf o) ∷ []
   unfolding signFor
-  sign-union h = rw h
+  sign-operator plus h = rw h
+  sign-operator minus h = rw h
 
-  pub sign-difference : s ≡ operatorSign difference → signFor l from to s ≡ sign difference ∷ []
-  unfolding signFor
-  sign-difference h = rw h
-
-  pub sign-nothing : (p : ℕ) → p ≡ partOf s → 4 ≤ p → (s ≡ operatorSign union → ⊥) → (s ≡ operatorSign difference → ⊥) → signFor l from to s ≡ []
+  pub sign-nothing : (p : ℕ) → p ≡ partOf s → 4 ≤ p → (s ≡ operatorSign plus → ⊥) → (s ≡ operatorSign minus → ⊥) → signFor l from to s ≡ []
   unfolding signFor
   sign-nothing p e h n m = rw (sym e) (simp (le-ltb p 4 h, ne-eqb s 43 n, ne-eqb s 45 m))
 
@@ -93,7 +90,7 @@ module _ (w : List ℕ) (i : ℕ) where
   leading-all h p = sym (p ∙ ap (λ (x : List ℕ). take i w ++ x) (rw (drop-of-length-le w h) (unfold leading in refl)) ∙ append-nil (take i w))
 
 -- ---- a formula's word
-pub not-named : (o : Operator) (p q : Formula) → namesA (join o p q) ≡ false → (namesA p ≡ false) × (namesA q ≡ false)
+pub not-named : (o : Basic) (p q : Formula) → namesA (join o p q) ≡ false → (namesA p ≡ false) × (namesA q ≡ false)
 not-named o p q e = go (namesA p) (namesA q) refl refl e
   where
     go : (x y : Bool) → namesA p ≡ x → namesA q ≡ y → (x || y) ≡ false → (namesA p ≡ false) × (namesA q ≡ false)
@@ -101,13 +98,13 @@ not-named o p q e = go (namesA p) (namesA q) refl refl e
     go false true g h e = absurd (true≢false e)
     go false false g h e = (g, h)
 
-pub word-join : (o : Operator) (p q : Formula) (w : List ℕ) → word (join o p q) ++ w ≡ word p ++ (word q ++ (operatorSign o ∷ w))
+pub word-join : (o : Basic) (p q : Formula) (w : List ℕ) → word (join o p q) ++ w ≡ word p ++ (word q ++ (operatorSign o ∷ w))
 word-join o p q w = simp append-assoc
 
-leading-sign : (o : Operator) (w : List ℕ) → leading (operatorSign o ∷ w) ≡ operatorSign o ∷ leading w
+leading-sign : (o : Basic) (w : List ℕ) → leading (operatorSign o ∷ w) ≡ operatorSign o ∷ leading w
 unfolding leading
-leading-sign union w = refl
-leading-sign difference w = refl
+leading-sign plus w = refl
+leading-sign minus w = refl
 
 leading-past : (p : Formula) → namesA p ≡ false → (w : List ℕ) → leading (word p ++ w) ≡ word p ++ leading w
 leading-past A e w = absurd (true≢false e)
@@ -134,10 +131,6 @@ before-append (frame left o b ∷ e) r = before-append e r
 before-append (frame right o b ∷ e) r = ap (λ (x : List ℕ). x ++ postfix b) (before-append e r) ∙ append-assoc (before r) (before e) (postfix b)
 
 module _ (l from to : List ℕ) (a b c d : Tree) (P : Parts l from to a b c d) where
-  sign-operator : (o : Operator) → signFor l from to (operatorSign o) ≡ sign o ∷ []
-  sign-operator union = sign-union l from to 43 refl
-  sign-operator difference = sign-difference l from to 45 refl
-
   part-sign : (k : ℕ) → partOf k < 4 → spell l from to (k ∷ []) ≡ cut l (getD from (partOf k) 0) (getD to (partOf k) 0)
   part-sign k h = spell-one l from to k ∙ sign-part l from to k (partOf k) refl h
 
@@ -149,9 +142,9 @@ module _ (l from to : List ℕ) (a b c d : Tree) (P : Parts l from to a b c d) w
   spell-word D = part-sign 68 (omega arith) ∙ P .of-d
   spell-word (join o p q) =
       spell-append l from to (word p) (word q ++ (operatorSign o ∷ []))
-      ∙ ap (λ (x : List ℕ). spell l from to (word p) ++ x) (spell-append l from to (word q) (operatorSign o ∷ []) ∙ ap (λ (x : List ℕ). spell l from to (word q) ++ x) (spell-one l from to (operatorSign o) ∙ sign-operator o))
-      ∙ ap (λ (x : List ℕ). x ++ (spell l from to (word q) ++ (sign o ∷ []))) (spell-word p)
-      ∙ ap (λ (x : List ℕ). postfix (value node a b c d p) ++ (x ++ (sign o ∷ []))) (spell-word q)
+      ∙ ap (λ (x : List ℕ). spell l from to (word p) ++ x) (spell-append l from to (word q) (operatorSign o ∷ []) ∙ ap (λ (x : List ℕ). spell l from to (word q) ++ x) (spell-one l from to (operatorSign o) ∙ sign-operator l from to (operatorSign o) o refl))
+      ∙ ap (λ (x : List ℕ). x ++ (spell l from to (word q) ++ (sign (operatorOf o) ∷ []))) (spell-word p)
+      ∙ ap (λ (x : List ℕ). postfix (value node a b c d p) ++ (x ++ (sign (operatorOf o) ∷ []))) (spell-word q)
 
   -- what stands before A in a formula's list is what the signs before A stand for
   pub before-frames : (p : Formula) → T (once p) → (w : List ℕ) → before (framesOf b c d p) ≡ spell l from to (leading (word p ++ w))
@@ -167,11 +160,11 @@ module _ (l from to : List ℕ) (a b c d : Tree) (P : Parts l from to a b c d) w
       go : (T (once p) → before (framesOf b c d p) ≡ spell l from to (leading (word p ++ (word q ++ (operatorSign o ∷ w)))))
           → (T (once q) → before (framesOf b c d q) ≡ spell l from to (leading (word q ++ (operatorSign o ∷ w))))
           → (m : Bool) → namesA p ≡ m → T (cond m (once p && not (namesA q)) (once q))
-          → before (cond m (framesOf b c d p ++ (frame left o (value node b b c d q) ∷ [])) (framesOf b c d q ++ (frame right o (value node b b c d p) ∷ [])))
+          → before (cond m (framesOf b c d p ++ (frame left (operatorOf o) (value node b b c d q) ∷ [])) (framesOf b c d q ++ (frame right (operatorOf o) (value node b b c d p) ∷ [])))
           ≡ spell l from to (leading (word p ++ (word q ++ (operatorSign o ∷ w))))
-      go hp hq true e t = before-append (framesOf b c d p) (frame left o (value node b b c d q) ∷ []) ∙ hp (and-left (once p) (not (namesA q)) t)
+      go hp hq true e t = before-append (framesOf b c d p) (frame left (operatorOf o) (value node b b c d q) ∷ []) ∙ hp (and-left (once p) (not (namesA q)) t)
       go hp hq false e t =
-          before-append (framesOf b c d q) (frame right o (value node b b c d p) ∷ [])
+          before-append (framesOf b c d q) (frame right (operatorOf o) (value node b b c d p) ∷ [])
           ∙ ap (λ (x : List ℕ). x ++ before (framesOf b c d q)) (ap postfix (without-a b a b c d p (subst (λ (m : Bool). T (not m)) (sym e) tt)) ∙ sym (spell-word p))
           ∙ ap (λ (x : List ℕ). spell l from to (word p) ++ x) (hq t)
           ∙ sym (spell-append l from to (word p) (leading (word q ++ (operatorSign o ∷ w))))

@@ -5,7 +5,7 @@ use mathlib.Core.List.{List, [], _∷_, _++_}
 use Prim.Native.Nat.{ℕ, _+_, _-_, _≤_, _<_}
 use lib.Dec.{T, eqb, leb, ltb}
 use lib.ListN.{length, getD, take, drop, replicate}
-use Rattle.tree.specs.Tree.{union, difference}
+use Rattle.tree.specs.Tree.{plus, minus, operatorOf}
 use Rattle.tree.specs.InnerPart.{kindOf}
 use Rattle.moves.specs.Moves.{Formula, above}
 use Rattle.moves.specs.InnerWords.{firstPart, operatorSign, blank, word, once, partOf, leading}
@@ -25,7 +25,7 @@ pub record PlaceIs (w : List ℕ) (r : ℕ) : Type 0 where
 
 -- an operator by its sign, 2 for any other sign
 abbrev pub operatorNumber : ℕ → ℕ
-operatorNumber s = cond (eqb s (operatorSign union)) 0 (cond (eqb s (operatorSign difference)) 1 2)
+operatorNumber s = cond (eqb s (operatorSign plus)) 0 (cond (eqb s (operatorSign minus)) 1 2)
 
 -- the kind of the frame that an operator makes above a part: the part is its right operand if no operand has come since, else its left one
 abbrev pub frameKind : ℕ → ℕ → ℕ
@@ -48,7 +48,7 @@ pub record FrameAfter (w : List ℕ) (from : ℕ) (r : WordFrame) : Type 0 where
 
 -- the frames above A in a formula, as numbers
 abbrev pub kindNumbers : Formula → List ℕ
-kindNumbers p = above (λ s o q. kindOf s o) p
+kindNumbers p = above (λ s o q. kindOf s (operatorOf o)) p
 
 -- the two innermost frames above A, 0 for one that is not there, of whichever formula that names A once the word is, blanks after it or not
 pub record AboveIs (w : List ℕ) (r : AboveA) : Type 0 where

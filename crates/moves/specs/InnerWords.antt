@@ -5,7 +5,7 @@ use mathlib.Core.List.{List, [], _∷_, _++_}
 use Prim.Native.Nat.{ℕ, _-_, _≤_, _<_}
 use lib.Dec.{eqb, leb, ltb}
 use lib.ListN.{length, getD, take, drop, replicate}
-use Rattle.tree.specs.Tree.{Operator, union, difference, sign, mostNodes}
+use Rattle.tree.specs.Tree.{Basic, plus, minus, operatorOf, sign, mostNodes}
 use Rattle.moves.specs.Moves.{Formula, A, B, C, D, join, namesA}
 
 -- the signs' bytes
@@ -15,9 +15,9 @@ firstPart = 65
 abbrev pub lastPart : ℕ
 lastPart = 68
 
-abbrev pub operatorSign : Operator → ℕ
-operatorSign union = 43
-operatorSign difference = 45
+abbrev pub operatorSign : Basic → ℕ
+operatorSign plus = 43
+operatorSign minus = 45
 
 abbrev pub blank : ℕ
 blank = 32
@@ -72,7 +72,7 @@ partOf s = cond (leb firstPart s && leb s lastPart) (s - firstPart) 4
 unfoldable pub signFor : List ℕ → List ℕ → List ℕ → ℕ → List ℕ
 signFor list from to s =
     cond (ltb (partOf s) 4) (cut list (getD from (partOf s) 0) (getD to (partOf s) 0))
-    (cond (eqb s (operatorSign union)) (sign union ∷ []) (cond (eqb s (operatorSign difference)) (sign difference ∷ []) []))
+    (cond (eqb s (operatorSign plus)) (sign (operatorOf plus) ∷ []) (cond (eqb s (operatorSign minus)) (sign (operatorOf minus) ∷ []) []))
 
 -- what a word stands for
 unfoldable pub spell : List ℕ → List ℕ → List ℕ → List ℕ → List ℕ

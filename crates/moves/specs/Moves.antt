@@ -1,23 +1,24 @@
 -- Document 01, "The lift": the states, the inputs and the move entries (Table 9); state 9 by request 2 of 02.
+use mathlib.Core.Option.{Option, some, none}
 use mathlib.Core.Bool.{Bool, true, false, cond, _||_}
 use mathlib.Core.List.{List, [], _∷_, _++_}
-use Rattle.tree.specs.Tree.{Operator, union, difference, Tree, node}
+use Rattle.tree.specs.Tree.{Operator, union, difference, Basic, plus, minus, operatorOf, Tree, node}
 use Rattle.tree.specs.Context.{Side, left, right, Frame, frame}
 
 -- "A is the part lifted, B its sibling, C its uncle, D the sibling of the grandparent's part T": formulas over these
 pub data Formula : Type 0 where
   A B C D : Formula
-  join : Operator → Formula → Formula → Formula
+  join : Basic → Formula → Formula → Formula
 
 infixl 70 _U_
 infixl 70 _−_
 -- union, as 01 writes it
 abbrev pub _U_ : Formula → Formula → Formula
-x U y = join union x y
+x U y = join plus x y
 
 -- difference, as 01 writes it
 abbrev pub _−_ : Formula → Formula → Formula
-x − y = join difference x y
+x − y = join minus x y
 
 -- "There are nine."
 pub data State : Type 0 where
@@ -25,27 +26,43 @@ pub data State : Type 0 where
 
 -- "States (where U stands, either order of its operands): 1 (A U B) U C; 2 C−(A U B); 3 (A−B)−C; 4 (B−A)−C; 5 (A U B)−C;
 -- 6 (A−B) U C; 7 (B−A) U C; 8 C−(A−B); 9 C−(B−A)", by A's side and its parent's operator, the parent's side and the grandparent's operator
-abbrev pub stateOf : Side → Operator → Side → Operator → State
-stateOf s union t union = state1
-stateOf s union right difference = state2
-stateOf left difference left difference = state3
-stateOf right difference left difference = state4
-stateOf s union left difference = state5
-stateOf left difference t union = state6
-stateOf right difference t union = state7
-stateOf left difference right difference = state8
-stateOf right difference right difference = state9
+abbrev pub stateOf : Side → Basic → Side → Basic → State
+stateOf s plus t plus = state1
+stateOf s plus right minus = state2
+stateOf left minus left minus = state3
+stateOf right minus left minus = state4
+stateOf s plus left minus = state5
+stateOf left minus t plus = state6
+stateOf right minus t plus = state7
+stateOf left minus right minus = state8
+stateOf right minus right minus = state9
 
 -- the inputs a, b, c and d
 pub data Input : Type 0 where
   inputA inputB inputC inputD : Input
 
 -- "Input: a is T U D, b is T−D, c is D U T, d is D−T", by T's side and the operator above it
-abbrev pub inputOf : Side → Operator → Input
-inputOf left union = inputA
-inputOf left difference = inputB
-inputOf right union = inputC
-inputOf right difference = inputD
+abbrev pub inputOf : Side → Basic → Input
+inputOf left plus = inputA
+inputOf left minus = inputB
+inputOf right plus = inputC
+inputOf right minus = inputD
+
+-- a tree's operator as one of these two
+abbrev pub basic : Operator → Option Basic
+basic union = some plus
+basic difference = some minus
+
+-- the state, where both operators are
+abbrev pub stateWith : Side → Option Basic → Side → Option Basic → Option State
+stateWith s (some o) t (some q) = some (stateOf s o t q)
+stateWith s (some o) t none = none
+stateWith s none t q = none
+
+-- the input, where the operator is
+abbrev pub inputWith : Side → Option Basic → Option Input
+inputWith u (some w) = some (inputOf u w)
+inputWith u none = none
 
 -- the one of four, under a, b, c, d
 abbrev pub under : {X : Type 0} → Input → X → X → X → X → X
@@ -78,7 +95,7 @@ value f a b c d A = a
 value f a b c d B = b
 value f a b c d C = c
 value f a b c d D = d
-value f a b c d (join o p q) = f o (value f a b c d p) (value f a b c d q)
+value f a b c d (join o p q) = f (operatorOf o) (value f a b c d p) (value f a b c d q)
 
 -- whether a formula names A
 abbrev pub namesA : Formula → Bool
@@ -89,7 +106,7 @@ namesA D = false
 namesA (join o p q) = namesA p || namesA q
 
 -- the frames above A in a formula that names A once, innermost first: f makes each of A's side, the operator and the other operand
-abbrev pub above : {X : Type 0} → (Side → Operator → Formula → X) → Formula → List X
+abbrev pub above : {X : Type 0} → (Side → Basic → Formula → X) → Formula → List X
 above f A = []
 above f B = []
 above f C = []
@@ -98,4 +115,4 @@ above f (join o p q) = cond (namesA p) (above f p ++ (f left o q ∷ [])) (above
 
 -- A's context in such a formula, over the trees b, c and d
 abbrev pub framesOf : Tree → Tree → Tree → Formula → List Frame
-framesOf b c d p = above (λ s o q. frame s o (value node b b c d q)) p
+framesOf b c d p = above (λ s o q. frame s (operatorOf o) (value node b b c d q)) p

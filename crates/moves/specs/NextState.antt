@@ -2,9 +2,9 @@
 -- is Table 10 (`table-10`) and A's state in the tree after the step (`next-state`); no contract of one of 01's calls cites this file.
 use mathlib.Core.Option.{Option, some, none}
 use mathlib.Core.List.{List, [], _∷_, _++_, map}
-use Rattle.tree.specs.Tree.{Operator, union, difference}
+use Rattle.tree.specs.Tree.{Operator, union, difference, operatorOf}
 use Rattle.tree.specs.Context.{Side, left, right, Frame, frame}
-use Rattle.moves.specs.Moves.{Formula, above, State, state1, state2, state3, state4, state5, state6, state7, state8, state9, stateOf, Input, under, Move, replaceT, replaceTWithD, moveOf}
+use Rattle.moves.specs.Moves.{Formula, above, State, state1, state2, state3, state4, state5, state6, state7, state8, state9, basic, stateWith, Input, under, Move, replaceT, replaceTWithD, moveOf}
 
 -- a frame's side and operator
 pub data Kind : Type 0 where
@@ -22,7 +22,7 @@ kindOfInput i = under i (kind left union) (kind left difference) (kind right uni
 abbrev pub stateBelow : List Kind → Option State
 stateBelow [] = none
 stateBelow (k ∷ []) = none
-stateBelow (kind s o ∷ (kind t q ∷ r)) = some (stateOf s o t q)
+stateBelow (kind s o ∷ (kind t q ∷ r)) = stateWith s (basic o) t (basic q)
 
 -- the state of the node with this context
 abbrev pub stateIn : List Frame → Option State
@@ -30,16 +30,17 @@ stateIn c = stateBelow (map kindOfFrame c)
 
 -- "the operators and sides" above A in a formula that names A once
 abbrev pub kindsAbove : Formula → List Kind
-kindsAbove p = above (λ s o q. kind s o) p
+kindsAbove p = above (λ s o q. kind s (operatorOf o)) p
 
 -- "the operators and sides that the entry, in states 1 to 4 with the input, leaves above A"
 abbrev pub leftAbove : Move → Input → List Kind
 leftAbove (replaceT p) i = kindsAbove p ++ (kindOfInput i ∷ [])
 leftAbove (replaceTWithD p q s t) i = kindsAbove (under i p q s t)
 
--- "The new state is worked out from" these
-abbrev pub stateAfter : State → Input → Option State
-stateAfter x i = stateBelow (leftAbove (moveOf x) i)
+-- "The new state is worked out from" these; none where there is no input
+abbrev pub stateAfter : State → Option Input → Option State
+stateAfter x (some i) = stateBelow (leftAbove (moveOf x) i)
+stateAfter x none = none
 
 -- Table 10: "The state after a step, under inputs a b c d"; request 2: "The next state is 9 for a, b and c, and 7 for d"
 abbrev pub nextState : State → Input → State

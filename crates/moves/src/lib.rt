@@ -8,8 +8,8 @@ ghost use Rattle.tree.specs.Tree.{Operator, mostNodes};
 ghost use Rattle.tree.specs.Context.{Side};
 ghost use Rattle.tree.specs.InnerPart.{kindOf};
 ghost use Rattle.tree.specs.InnerWriting.{Wrote};
-ghost use Rattle.moves.specs.Moves.{stateOf};
-ghost use Rattle.moves.specs.InnerEntries.{stateNumber, EntryIs, NextIs};
+ghost use Rattle.moves.specs.Moves.{basic, stateWith};
+ghost use Rattle.moves.specs.InnerEntries.{optionalNumber, EntryIs, NextIs};
 ghost use Rattle.moves.specs.InnerWords.{partOf, Within, Bounded, signFor, spell, mostSigns, replaced};
 ghost use Rattle.moves.specs.InnerAbove.{PlaceIs, operatorNumber, frameKind, FrameAfter, AboveIs};
 ghost use Rattle.moves.specs.InnerReplacing.{Replaced};
@@ -82,6 +82,9 @@ const STATES: [[usize; 4]; 4] = [[1, 5, 1, 2], [6, 3, 6, 8], [1, 5, 1, 2], [7, 4
 // States 1 to 4 replace T alone, the others T with D.
 pub const LAST_ALONE: usize = 4;
 
+// The inputs a b c d are 0 to 3, the kinds of T's frame (`tree::Above`); this and more stands for none.
+pub const NO_INPUT: usize = 4;
+
 // A frame in a word: its kind (`tree::Above`), and the index after its operator.
 struct WordFrame {
     kind: u8,
@@ -100,20 +103,26 @@ pub enum Replacement {
     Done { nodes: usize, from: usize },
 }
 
-// The word of a move entry.
+// The word of a move entry; where there is no input, in states 1 to 4, all inputs have the same.
 pub fn move_word(state: usize, input: usize) -> [u8; 13]
-    requires { ⌜ (1 ≤ state) × (state ≤ 9) × (input < 4) ⌝ }
+    requires { ⌜ (1 ≤ state) × (state ≤ 9) ⌝ }
     ensures { λ r. ⌜ EntryIs state input r ⌝ }
 {
     let row = MOVES[state - 1];
-    row[input]
+    row[input % 4]
 }
 
-// The state of a part, by its own kind and its parent's.
+// The state of a part, by its own kind and its parent's; 0 where it has none.
 pub fn state_of(own: u8, parent: u8) -> usize
-    requires { ⌜ (own < 4) × (parent < 4) ⌝ }
-    ensures { λ r. ⌜ ((s : Side) (o : Operator) (t : Side) (q : Operator) → own ≡ kindOf s o → parent ≡ kindOf t q → r ≡ stateNumber (stateOf s o t q)) ⌝ }
+    ensures { λ r. ⌜ ((s : Side) (o : Operator) (t : Side) (q : Operator) → own ≡ kindOf s o → parent ≡ kindOf t q
+        → r ≡ optionalNumber (stateWith s (basic o) t (basic q))) ⌝ }
 {
+    if 4 <= own {
+        return 0;
+    }
+    if 4 <= parent {
+        return 0;
+    }
     let row = STATES[own as usize];
     row[parent as usize]
 }
@@ -297,12 +306,14 @@ fn above_a(word: &[u8]) -> AboveA
 }
 
 // The state after a step, from the frames that the entry leaves above A: one and the input's in states 1 to 4, where T alone is replaced; two
-// in the others.
+// in the others. 0 where there is no input.
 pub fn next_state(entry: &[u8], state: usize, input: usize) -> usize
     requires { ⌜ EntryIs state input (now entry) ⌝ }
-    requires { ⌜ input < 4 ⌝ }
     ensures { λ r. ⌜ NextIs state input r ⌝ }
 {
+    if NO_INPUT <= input {
+        return 0;
+    }
     let above = above_a(entry);
     let above_t = input as u8;
     if state <= LAST_ALONE {

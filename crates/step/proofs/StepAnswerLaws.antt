@@ -11,13 +11,13 @@ use Rattle.tree.proofs.TreeLaws.{postfix-length}
 use Rattle.tree.proofs.PartLaws.{part-take, part-drop, part-own}
 use Rattle.moves.specs.Moves.{Formula, moveOf, value, framesOf}
 use Rattle.moves.specs.InnerWords.{word, padded, rowSigns, blank, Range, Within, spell, leading, replaced}
-use Rattle.moves.specs.InnerEntries.{entryOf, EntryIs, NextIs}
+use Rattle.moves.specs.InnerEntries.{optionalNumber, entryOf, EntryIs, NextIs}
 use Rattle.moves.specs.InnerReplacing.{Written, ReplacedBy, Replaced}
 use Rattle.moves.specs.declared.Replacement.{Replacement}
 use Rattle.moves.specs.declared.Replacement.the-variants.{TooLong, Done}
 use Rattle.moves.proofs.MoveLaws.{plug-frames, once-entry}
 use Rattle.moves.proofs.WordLaws.{Parts, spell-word, spell-padded, before-append, before-frames}
-use Rattle.moves.proofs.TableLaws.{state-range, input-range}
+use Rattle.moves.proofs.TableLaws.{state-range}
 use Rattle.step.specs.InnerStanding.{Standing}
 use Rattle.step.specs.InnerSteps.{ReplaceIs, StepTooLong, StepDone}
 use Rattle.step.specs.declared.Node.{Node}
@@ -34,8 +34,8 @@ module _ {l : List ℕ} {n : Node} {c : List Frame} {input : ℕ} {atB atC atD w
   within r (suc (suc (suc zero))) h = H .range-d
   within r (suc (suc (suc (suc k)))) h = absurd (omega arith)
 
-  pub in-table : (1 ≤ n .state) × (n .state ≤ 9) × (input < 4)
-  in-table = omega (arith, H .state-is, H .input-is, state-range (H .at-state), input-range (H .at-input))
+  pub in-table : (1 ≤ n .state) × (n .state ≤ 9)
+  in-table = omega (arith, H .state-is, state-range (H .at-state))
 
   module _ {a : Tree} (S : Standing l n a c) where
     abbrev p : Formula
@@ -97,6 +97,6 @@ module _ {l : List ℕ} {n : Node} {c : List Frame} {input : ℕ} {atB atC atD w
           short = new .1 .short;
           stands = record {
             part = record { whole = new .1 .entries; begins = new .0; ends = omega (arith, S .part .ends) };
-            state = λ y h. t (H .at-state) (H .at-input) y (H .state-is) (H .input-is) (H .next y h);
+            state = t (H .at-state) (H .letter) (H .state-is) (H .letter-is) ∙ sym (ap optionalNumber (H .next));
           };
         }

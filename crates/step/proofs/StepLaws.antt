@@ -2,20 +2,23 @@
 -- side by an entry (`Makes`); each law follows from that. When there is none: `stuck-exactly`.
 use mathlib.Core.Path.{_≡_, refl, sym, ap, subst, _∙_}
 use mathlib.Core.Bool.{Bool, true, false, true≢false, false≢true}
+use mathlib.Core.Option.{Option, some, none}
 use mathlib.Core.List.{List, [], _∷_, _++_}
-use Prim.Native.Nat.{ℕ, _+_, _≤_, _<_}
+use Prim.Native.Nat.{ℕ, suc, _+_, _≤_, _<_}
 use native.Mathlib.Omega.{arith}
 use borrow.Author.Tests.{le-leb, lt-leb, leb-false}
 use lib.Dec.{T}
 use lib.ListN.{length, length-append}
-use Rattle.tree.specs.Tree.{Operator, Tree, selects, apply, Over}
+use Rattle.common.specs.Exactly.{Exactly}
+use Rattle.tree.specs.Tree.{Operator, union, difference, Basic, plus, minus, operatorOf, Tree, selects, apply, Over}
 use Rattle.tree.specs.Context.{Side, Frame, frame, plug}
-use Rattle.moves.specs.Moves.{Formula, Move, replaceT, replaceTWithD, State, Input, moveOf, stateOf, inputOf, under, framesOf}
-use Rattle.moves.specs.InnerEntries.{stateNumber, entryOf}
+use Rattle.moves.specs.Moves.{Formula, Move, replaceT, replaceTWithD, State, Input, moveOf, stateOf, inputOf, basic, inputWith, under, framesOf}
+use Rattle.moves.specs.NextState.{stateIn}
+use Rattle.moves.specs.InnerEntries.{stateNumber, optionalNumber, entryOf}
 use Rattle.moves.proofs.Cases.{at-kind}
 use Rattle.moves.proofs.MoveLaws.{agree, both, replaces, Replaces, may-replace, formulaT, formulaTWithD, right-move, every-move, levelOfA, frames-level, frames-t, frames-t-with-d, alone, alone-number}
 use Rattle.moves.proofs.EntryLaws.{evaluate, entry-same, evaluate-selects, over-evaluate, evaluate-over}
-use Rattle.step.specs.Step.{Outcome, stuck, moved, stepBy, step}
+use Rattle.step.specs.Step.{Outcome, stuck, moved, needs, stepBy, step}
 
 -- ---- what a step does: an entry takes the place of a left side for which it may stand
 pub record Makes (c e : List Frame) : Type 0 where
@@ -33,37 +36,50 @@ abbrev Made : List Frame → Outcome → Type 0
 Made c stuck = Unit {0}
 Made c (moved e) = Makes c e
 
-made : (s : Side) (o : Operator) (t : Side) (q : Operator) (b c : Tree) (r : List Frame) (m : Move) → T (right-move s o t q m)
-    → Made (frame s o b ∷ (frame t q c ∷ r)) (stepBy m b c r)
-made s o t q b c r (replaceT p) ok = record {
-  entry = p;
-  side = formulaT s o t q;
-  may = may-replace p (formulaT s o t q) ok;
-  b = b;
-  c′ = c;
-  d = c;
-  r = r;
-  was = ap (λ (x : List Frame). x ++ r) (sym (frames-t s o t q b c c));
-  is = refl;
-}
-made s o t q b c [] (replaceTWithD w x y z) ok = tt
-made s o t q b c (frame u k d ∷ r) (replaceTWithD w x y z) ok = record {
-  entry = under (inputOf u k) w x y z;
-  side = formulaTWithD s o t q u k;
-  may = may-replace (under (inputOf u k) w x y z) (formulaTWithD s o t q u k) (at-kind (λ u k. replaces (under (inputOf u k) w x y z) (formulaTWithD s o t q u k)) ok u k);
-  b = b;
-  c′ = c;
-  d = d;
-  r = r;
-  was = ap (λ (x : List Frame). x ++ r) (sym (frames-t-with-d s o t q u k b c d));
-  is = refl;
-}
+module _ (s : Side) (o : Basic) (t : Side) (q : Basic) (b c : Tree) where
+  made : (r : List Frame) (m : Move) → T (right-move s o t q m) → Made (frame s (operatorOf o) b ∷ (frame t (operatorOf q) c ∷ r)) (stepBy m b c r)
+  made r (replaceT p) ok = record {
+    entry = p;
+    side = formulaT s o t q;
+    may = may-replace p (formulaT s o t q) ok;
+    b = b;
+    c′ = c;
+    d = c;
+    r = r;
+    was = ap (λ (x : List Frame). x ++ r) (sym (frames-t s o t q b c c));
+    is = refl;
+  }
+  made [] (replaceTWithD w x y z) ok = tt
+  made (frame u k d ∷ r) (replaceTWithD w x y z) ok = go k
+    where
+      with-d : (k : Basic) → Makes (frame s (operatorOf o) b ∷ (frame t (operatorOf q) c ∷ (frame u (operatorOf k) d ∷ r))) (framesOf b c d (under (inputOf u k) w x y z) ++ r)
+      with-d k = record {
+        entry = under (inputOf u k) w x y z;
+        side = formulaTWithD s o t q u k;
+        may = may-replace (under (inputOf u k) w x y z) (formulaTWithD s o t q u k) (at-kind (λ u k. replaces (under (inputOf u k) w x y z) (formulaTWithD s o t q u k)) ok u k);
+        b = b;
+        c′ = c;
+        d = d;
+        r = r;
+        was = ap (λ (x : List Frame). x ++ r) (sym (frames-t-with-d s o t q u k b c d));
+        is = refl;
+      }
+
+      go : (k : Operator) → Made (frame s (operatorOf o) b ∷ (frame t (operatorOf q) c ∷ (frame u k d ∷ r))) (stepBy (replaceTWithD w x y z) b c (frame u k d ∷ r))
+      go union = with-d plus
+      go difference = with-d minus
+
+  made-two : (r : List Frame) → Made (frame s (operatorOf o) b ∷ (frame t (operatorOf q) c ∷ r)) (stepBy (moveOf (stateOf s o t q)) b c r)
+  made-two r = made r (moveOf (stateOf s o t q)) (every-move s o t q)
 
 made-step : (c : List Frame) → Made c (step c)
 unfolding step
 made-step [] = tt
 made-step (f ∷ []) = tt
-made-step (frame s o b ∷ (frame t q c ∷ r)) = made s o t q b c r (moveOf (stateOf s o t q)) (every-move s o t q)
+made-step (frame s union b ∷ (frame t union c ∷ r)) = made-two s plus t plus b c r
+made-step (frame s union b ∷ (frame t difference c ∷ r)) = made-two s plus t minus b c r
+made-step (frame s difference b ∷ (frame t union c ∷ r)) = made-two s minus t plus b c r
+made-step (frame s difference b ∷ (frame t difference c ∷ r)) = made-two s minus t minus b c r
 
 pub makes : (c e : List Frame) → step c ≡ moved e → Makes c e
 makes c e h = subst (Made c) h (made-step c)
@@ -119,38 +135,43 @@ no-d x b c h = go (moveOf x) (alone-number x ∙ lt-leb (stateNumber x) 4 h)
     go (replaceT p) e = absurd (true≢false e)
     go (replaceTWithD p q s t) e = refl
 
-pub by-t-with-d : (x : State) (b c : Tree) (u : Side) (w : Operator) (d : Tree) (r : List Frame) → 4 < stateNumber x
-    → stepBy (moveOf x) b c (frame u w d ∷ r) ≡ moved (framesOf b c d (entryOf (moveOf x) (inputOf u w)) ++ r)
-by-t-with-d x b c u w d r h = go (moveOf x) (alone-number x ∙ lt-leb (stateNumber x) 4 h)
-  where
-    go : (m : Move) → alone m ≡ false → stepBy m b c (frame u w d ∷ r) ≡ moved (framesOf b c d (entryOf m (inputOf u w)) ++ r)
-    go (replaceT p) e = absurd (true≢false e)
-    go (replaceTWithD p q s t) e = refl
+module _ (x : State) (b c : Tree) (u : Side) (w : Operator) (d : Tree) (r : List Frame) (h : 4 < stateNumber x) where
+  with-d : stepBy (moveOf x) b c (frame u w d ∷ r) ≡ needs (inputWith u (basic w)) (λ i. moved (framesOf b c d (entryOf (moveOf x) i) ++ r))
+  with-d = go (moveOf x) (alone-number x ∙ lt-leb (stateNumber x) 4 h)
+    where
+      go : (m : Move) → alone m ≡ false → stepBy m b c (frame u w d ∷ r) ≡ needs (inputWith u (basic w)) (λ i. moved (framesOf b c d (entryOf m i) ++ r))
+      go (replaceT p) e = absurd (true≢false e)
+      go (replaceTWithD p q s t) e = refl
+
+  pub no-input : inputWith u (basic w) ≡ none → stepBy (moveOf x) b c (frame u w d ∷ r) ≡ stuck
+  no-input e = with-d ∙ ap (λ (y : Option Input). needs y (λ i. moved (framesOf b c d (entryOf (moveOf x) i) ++ r))) e
+
+  pub by-t-with-d : (i : Input) → inputWith u (basic w) ≡ some i → stepBy (moveOf x) b c (frame u w d ∷ r) ≡ moved (framesOf b c d (entryOf (moveOf x) i) ++ r)
+  by-t-with-d i e = with-d ∙ ap (λ (y : Option Input). needs y (λ i. moved (framesOf b c d (entryOf (moveOf x) i) ++ r))) e
 
 -- ---- request 2: "A step is refused with 15 exactly when A is at level 2 in states 5 to 9", of any context of at least two frames
-pub record Exactly (P Q : Type 0) : Type 0 where
-  pub only-if : P → Q
-  pub if : Q → P
-
 refused : (m : Move) (b c : Tree) (r : List Frame) → stepBy m b c r ≡ stuck → (r ≡ []) × (alone m ≡ false)
 refused (replaceT p) b c r h = absurd (let z : _≡_ {A = ℕ} 0 1 = cc in omega arith)
 refused (replaceTWithD p q s t) b c [] h = (refl, refl)
-refused (replaceTWithD p q s t) b c (frame u w d ∷ r) h = absurd (let z : _≡_ {A = ℕ} 0 1 = cc in omega arith)
+refused (replaceTWithD p q s t) b c (frame u union d ∷ r) h = absurd (let z : _≡_ {A = ℕ} 0 1 = cc in omega arith)
+refused (replaceTWithD p q s t) b c (frame u difference d ∷ r) h = absurd (let z : _≡_ {A = ℕ} 0 1 = cc in omega arith)
+
+module _ (b c : Tree) (r : List Frame) where
+  stuck-state : (x : State) → Exactly (stepBy (moveOf x) b c r ≡ stuck) ((suc (suc (length r)) ≡ 2) × (5 ≤ stateNumber x))
+  stuck-state x = record {
+    only = λ h. let R = refused (moveOf x) b c r h in (ap (λ (y : List Frame). suc (suc (length y))) (R .0), leb-false (stateNumber x) 4 (sym (alone-number x) ∙ R .1));
+    always = λ h. ap (stepBy (moveOf x) b c) (none-left r (h .0)) ∙ no-d x b c (h .1);
+  }
+    where
+      none-left : (r : List Frame) → suc (suc (length r)) ≡ 2 → r ≡ []
+      none-left [] e = refl
+      none-left (f ∷ r) e = absurd (omega arith)
 
 pub stuck-exactly : (s : Side) (o : Operator) (b : Tree) (t : Side) (q : Operator) (c : Tree) (r : List Frame)
     → let above = frame s o b ∷ (frame t q c ∷ r) in
-    Exactly (step above ≡ stuck) ((length above ≡ 2) × (5 ≤ stateNumber (stateOf s o t q)))
+    Exactly (step above ≡ stuck) ((length above ≡ 2) × (5 ≤ optionalNumber (stateIn above)))
 unfolding step
-stuck-exactly s o b t q c r = record {
-  only-if = λ h.
-      let R = refused (moveOf x) b c r h in
-      (ap (λ (y : List Frame). length (frame s o b ∷ (frame t q c ∷ y))) (R .0), leb-false (stateNumber x) 4 (sym (alone-number x) ∙ R .1));
-  if = λ h. ap (stepBy (moveOf x) b c) (none-left r (h .0)) ∙ no-d x b c (h .1);
-}
-  where
-    x : State
-    x = stateOf s o t q
-
-    none-left : (r : List Frame) → length (frame s o b ∷ (frame t q c ∷ r)) ≡ 2 → r ≡ []
-    none-left [] e = refl
-    none-left (f ∷ r) e = absurd (omega arith)
+stuck-exactly s union b t union c r = stuck-state b c r (stateOf s plus t plus)
+stuck-exactly s union b t difference c r = stuck-state b c r (stateOf s plus t minus)
+stuck-exactly s difference b t union c r = stuck-state b c r (stateOf s minus t plus)
+stuck-exactly s difference b t difference c r = stuck-state b c r (stateOf s minus t minus)

@@ -1,19 +1,17 @@
 -- A node as the code's functions see it: its part's entries and its state. No contract of one of 01's calls cites this file.
 use mathlib.Core.Path.{_≡_}
-use mathlib.Core.Option.{some}
 use mathlib.Core.List.{List}
 use Prim.Native.Nat.{ℕ}
 use Rattle.tree.specs.Tree.{Tree}
 use Rattle.tree.specs.Context.{Frame}
 use Rattle.tree.specs.InnerPart.{Part}
-use Rattle.moves.specs.Moves.{State}
 use Rattle.moves.specs.NextState.{stateIn}
-use Rattle.moves.specs.InnerEntries.{stateNumber}
+use Rattle.moves.specs.InnerEntries.{optionalNumber}
 use Rattle.step.specs.declared.Node.{Node}
 
--- n is the number of A's state, where A has one
+-- n is the number of A's state, 0 where A has none
 abbrev pub StateIs : List Frame → ℕ → Type 0
-StateIs c n = (y : State) → stateIn c ≡ some y → n ≡ stateNumber y
+StateIs c n = n ≡ optionalNumber (stateIn c)
 
 -- the node is the part a with the context c in the list of a tree
 pub record Standing (list : List ℕ) (n : Node) (a : Tree) (c : List Frame) : Type 0 where

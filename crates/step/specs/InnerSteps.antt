@@ -1,8 +1,8 @@
 -- What the functions for one step answer: a part's frame, the plan of a step, and the step itself. No contract of one of 01's calls cites this file.
 use mathlib.Core.Path.{_≡_}
-use mathlib.Core.Option.{some}
+use mathlib.Core.Option.{Option}
 use mathlib.Core.List.{List, [], _∷_, _++_}
-use Prim.Native.Nat.{ℕ, _≤_, _<_}
+use Prim.Native.Nat.{ℕ, _%_, _≤_, _<_}
 use lib.ListN.{take}
 use Rattle.tree.specs.Tree.{Operator, Tree, node, size, postfix, mostNodes}
 use Rattle.tree.specs.Context.{Side, Frame, frame, sided, plug}
@@ -10,7 +10,7 @@ use Rattle.tree.specs.InnerPart.{Part, kindOf}
 use Rattle.moves.specs.Moves.{State, Input, moveOf, framesOf}
 use Rattle.moves.specs.NextState.{stateIn, stateAfter}
 use Rattle.moves.specs.InnerWords.{cut, Range}
-use Rattle.moves.specs.InnerEntries.{stateNumber, inputNumber, entryOf}
+use Rattle.moves.specs.InnerEntries.{stateNumber, inputNumber, InputIs, entryOf}
 use Rattle.step.specs.Step.{stuck, moved, step}
 use Rattle.step.specs.InnerStanding.{Standing}
 use Rattle.step.specs.declared.Node.{Node}
@@ -39,17 +39,20 @@ abbrev pub FrameIs : List ℕ → Tree → List Frame → Framed → Type 0
 FrameIs list a c framed.Root = c ≡ []
 FrameIs list a c (framed.Under k atB atP) = UnderIs list a c k atB atP
 
--- the step replaces the part x, whose context is r, by an entry over B, C and D, whose stretches are given, and A's state is then the formula's
+-- the step replaces the part x, whose context is r, by an entry over B, C and D, whose stretches are given, and A's state is then the formula's; the
+-- entry is that of `at-input`, which is the input's letter where there is one
 pub record ReplaceIs (list : List ℕ) (n : Node) (c : List Frame) (input : ℕ) (atB atC atD whole : Stretch) : Type 0 where
   pub at-state : State
   pub at-input : Input
+  pub letter : Option Input
   pub b : Tree
   pub c′ : Tree
   pub d : Tree
   pub x : Tree
   pub r : List Frame
   pub state-is : n .state ≡ stateNumber at-state
-  pub input-is : input ≡ inputNumber at-input
+  pub input-is : input % 4 ≡ inputNumber at-input
+  pub letter-is : InputIs input letter
   pub range-b : Range list (atB .from) (atB .to)
   pub range-c : Range list (atC .from) (atC .to)
   pub range-d : Range list (atD .from) (atD .to)
@@ -58,7 +61,7 @@ pub record ReplaceIs (list : List ℕ) (n : Node) (c : List Frame) (input : ℕ)
   pub cut-d : cut list (atD .from) (atD .to) ≡ postfix d
   pub stretch : Part list (whole .from) (whole .to) x r
   pub moves : step c ≡ moved (framesOf b c′ d (entryOf (moveOf at-state) at-input) ++ r)
-  pub next : (y : State) → stateIn (framesOf b c′ d (entryOf (moveOf at-state) at-input) ++ r) ≡ some y → stateAfter at-state at-input ≡ some y
+  pub next : stateIn (framesOf b c′ d (entryOf (moveOf at-state) at-input) ++ r) ≡ stateAfter at-state letter
 
 -- what a plan says of the step of a node with the context c
 abbrev pub Planned : List ℕ → Node → List Frame → Plan → Type 0

@@ -1,23 +1,29 @@
 -- One step of a lift. It leaves the lifted part A as it is, so it is a function of A's context, of the three innermost frames above A.
+use mathlib.Core.Option.{Option, some, none}
 use mathlib.Core.List.{List, [], _∷_, _++_}
 use Rattle.tree.specs.Tree.{Tree}
 use Rattle.tree.specs.Context.{Frame, frame}
-use Rattle.moves.specs.Moves.{Move, replaceT, replaceTWithD, moveOf, stateOf, inputOf, under, framesOf}
+use Rattle.moves.specs.Moves.{Move, replaceT, replaceTWithD, moveOf, basic, stateWith, inputWith, under, framesOf}
 
 -- no step (01's number 15), or the new frames above A
 pub data Outcome : Type 0 where
   stuck : Outcome
   moved : List Frame → Outcome
 
+-- what is done with a state or an input, where there is one
+abbrev pub needs : {X : Type 0} → Option X → (X → Outcome) → Outcome
+needs none f = stuck
+needs (some x) f = f x
+
 -- A's step by its move, its sibling b, its uncle c and the frames above T; request 2: "A step is refused with 15 exactly when A is at level 2
 -- in states 5 to 9", where there is no D
 abbrev pub stepBy : Move → Tree → Tree → List Frame → Outcome
 stepBy (replaceT p) b c r = moved (framesOf b c c p ++ r)
 stepBy (replaceTWithD p q s t) b c [] = stuck
-stepBy (replaceTWithD p q s t) b c (frame u w d ∷ r) = moved (framesOf b c d (under (inputOf u w) p q s t) ++ r)
+stepBy (replaceTWithD p q s t) b c (frame u w d ∷ r) = needs (inputWith u (basic w)) (λ i. moved (framesOf b c d (under i p q s t) ++ r))
 
 -- the step of the part whose context is given; "15 the step .. has no grandparent": at level 0 or 1, where a lift is refused with 14 before
 unfoldable pub step : List Frame → Outcome
 step [] = stuck
 step (f ∷ []) = stuck
-step (frame s o b ∷ (frame t q c ∷ r)) = stepBy (moveOf (stateOf s o t q)) b c r
+step (frame s o b ∷ (frame t q c ∷ r)) = needs (stateWith s (basic o) t (basic q)) (λ x. stepBy (moveOf x) b c r)

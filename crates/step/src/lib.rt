@@ -8,10 +8,11 @@ ghost use Rattle.tree.specs.InnerPart.{Part, Located};
 ghost use Rattle.step.specs.InnerStanding.{StateIs, Standing, Stands};
 ghost use Rattle.step.specs.InnerSteps.{FrameIs, Planned, StepIs};
 use moves::LAST_ALONE;
+use moves::NO_INPUT;
 use moves::Replacement;
 use tree::Above;
 
-// A node of a tree's list: its part's entries, from `from` up to, not including, `to`; and its state, where it has a grandparent.
+// A node of a tree's list: its part's entries, from `from` up to, not including, `to`; and its state, 0 where it has none.
 pub struct Node {
     pub from: usize,
     pub to: usize,
@@ -85,17 +86,23 @@ fn plan_step(list: &[u16], node: Node) -> Plan
     let Framed::Under(_, c, t) = frame_above(list, parent) else {
         return Plan::Stuck;
     };
+    if node.state == 0 {
+        return Plan::Stuck;
+    }
     let Framed::Under(kind, d, whole) = frame_above(list, t) else {
         if node.state <= LAST_ALONE {
-            return Plan::Replace(0, b, c, c, t);
+            return Plan::Replace(NO_INPUT, b, c, c, t);
         }
         return Plan::Stuck;
     };
     let input = kind as usize;
-    if LAST_ALONE < node.state {
-        return Plan::Replace(input, b, c, d, whole);
+    if node.state <= LAST_ALONE {
+        return Plan::Replace(input, b, c, c, t);
     }
-    Plan::Replace(input, b, c, c, t)
+    if NO_INPUT <= input {
+        return Plan::Stuck;
+    }
+    Plan::Replace(input, b, c, d, whole)
 }
 
 // One step of a lift, written to `out`. The node's next state is worked out from the entry.
@@ -123,7 +130,7 @@ pub fn step(list: &[u16], node: Node, out: &mut [u16]) -> Stepped
     }
 }
 
-// The state of a part, worked out from the two frames above it; 0 where it has no grandparent.
+// The state of a part, worked out from the two frames above it; 0 where it has none.
 pub fn first_state(list: &[u16], part: Stretch) -> usize
     requires { ⌜ Located (now list) (part .from) (part .to) ⌝ }
     ensures { λ r. ⌜ ((a : Tree) (c : List Frame) → Part (now (list .entry)) (part .from) (part .to) a c → StateIs c r) ⌝ }

@@ -2,7 +2,8 @@
 use mathlib.Core.Path.{sym, ap, _∙_}
 use native.Mathlib.Omega.{arith}
 use lib.ListN.{length, getD}
-use Rattle.moves.proofs.WordLaws.{sign-part, sign-union, sign-difference, sign-nothing, cut-length}
+use Rattle.tree.specs.Tree.{plus, minus}
+use Rattle.moves.proofs.WordLaws.{sign-part, sign-operator, sign-nothing, cut-length}
 use borrow.Author.Needs.{needs}
 use Rattle.moves.proofs.sign_width.Statement.{statement}
 use Rattle.moves.proofs.sign_width.Tie as tie
@@ -34,10 +35,10 @@ returns c = let p = c .before .part-of .result in
     )
 
 returns-2 : tie.Need-returns-2
-returns-2 c = let g = c .before .before .before .args in (λ l h. sym (ap length (sign-union l (g .t1) (g .t2) (g .sign) (c .if2 .taken))), omega arith)
+returns-2 c = let g = c .before .before .before .args in (λ l h. sym (ap length (sign-operator l (g .t1) (g .t2) (g .sign) plus (c .if2 .taken))), omega arith)
 
 returns-3 : tie.Need-returns-3
-returns-3 c = let g = c .before .before .before .before .args in (λ l h. sym (ap length (sign-difference l (g .t1) (g .t2) (g .sign) (c .if3 .taken))), omega arith)
+returns-3 c = let g = c .before .before .before .before .args in (λ l h. sym (ap length (sign-operator l (g .t1) (g .t2) (g .sign) minus (c .if3 .taken))), omega arith)
 
 returns-4 : tie.Need-returns-4
 returns-4 c =

@@ -4,8 +4,9 @@ use mathlib.Core.List.{List}
 use Prim.Native.Nat.{ℕ, _+_, _≤_}
 use native.Mathlib.Omega.{arith}
 use lib.ListN.{length}
+use Rattle.tree.specs.Tree.{plus, minus}
 use Rattle.tree.proofs.WritingLaws.{wrote-as, wrote-nothing}
-use Rattle.moves.proofs.WordLaws.{sign-part, sign-union, sign-difference, sign-nothing}
+use Rattle.moves.proofs.WordLaws.{sign-part, sign-operator, sign-nothing}
 use borrow.Author.Needs.{needs}
 use Rattle.moves.proofs.write_sign.Statement.{statement}
 use Rattle.moves.proofs.write_sign.Tie as tie
@@ -62,7 +63,7 @@ returns c =
     wrote-as (c .before .before .copy .ensures) (sym (sign-part (g .list .now) (g .t2) (g .t3) (g .sign) (part-of .result) (part-of .ensures) (if1 .taken)))
 
 write-one-requires : tie.Need-write-one-requires
-write-one-requires c κs = let g = c .before .before .before .before .before .before in omega (arith, g .pre .1, ap length (sign-union (g .args .list .now) (g .args .t2) (g .args .t3) (g .args .sign) (c .before .if2 .taken)))
+write-one-requires c κs = let g = c .before .before .before .before .before .before in omega (arith, g .pre .1, ap length (sign-operator (g .args .list .now) (g .args .t2) (g .args .t3) (g .args .sign) plus (c .before .if2 .taken)))
 
 same-length-2 : tie.Need-same-length-2
 same-length-2 c = search needs
@@ -70,10 +71,10 @@ same-length-2 c = search needs
 returns-2 : tie.Need-returns-2
 returns-2 c =
     let if2 = c .before .before .before .before .if2 in
-    let g = c .before .before .before .before .before .before .before .before .before .args in wrote-as (c .before .before .write-one .ensures) (sym (sign-union (g .list .now) (g .t2) (g .t3) (g .sign) (if2 .taken)))
+    let g = c .before .before .before .before .before .before .before .before .before .args in wrote-as (c .before .before .write-one .ensures) (sym (sign-operator (g .list .now) (g .t2) (g .t3) (g .sign) plus (if2 .taken)))
 
 write-one-requires-2 : tie.Need-write-one-requires-2
-write-one-requires-2 c κs = let g = c .before .before .before .before .before .before .before in omega (arith, g .pre .1, ap length (sign-difference (g .args .list .now) (g .args .t2) (g .args .t3) (g .args .sign) (c .before .if3 .taken)))
+write-one-requires-2 c κs = let g = c .before .before .before .before .before .before .before in omega (arith, g .pre .1, ap length (sign-operator (g .args .list .now) (g .args .t2) (g .args .t3) (g .args .sign) minus (c .before .if3 .taken)))
 
 same-length-3 : tie.Need-same-length-3
 same-length-3 c = search needs
@@ -81,7 +82,7 @@ same-length-3 c = search needs
 returns-3 : tie.Need-returns-3
 returns-3 c =
     let if3 = c .before .before .before .before .if3 in
-    let g = c .before .before .before .before .before .before .before .before .before .before .args in wrote-as (c .before .before .write-one2 .ensures) (sym (sign-difference (g .list .now) (g .t2) (g .t3) (g .sign) (if3 .taken)))
+    let g = c .before .before .before .before .before .before .before .before .before .before .args in wrote-as (c .before .before .write-one2 .ensures) (sym (sign-operator (g .list .now) (g .t2) (g .t3) (g .sign) minus (if3 .taken)))
 
 returns-4 : tie.Need-returns-4
 returns-4 c =

@@ -1,12 +1,12 @@
 -- `first_state` meets its contract: the two frames that it found are the first of the context.
-use mathlib.Core.Path.{ap, subst, _∙_}
-use mathlib.Core.List.{List, _∷_}
+use mathlib.Core.Path.{sym, ap, subst}
+use mathlib.Core.List.{List}
 use native.Mathlib.Omega.{arith}
 use lib.ListN.{length}
 use Rattle.tree.specs.Tree.{Tree, node}
-use Rattle.tree.specs.Context.{Frame, frame, sided}
+use Rattle.tree.specs.Context.{Frame, sided}
 use Rattle.tree.specs.InnerPart.{Part}
-use Rattle.moves.proofs.TableLaws.{kind-small}
+use Rattle.moves.specs.InnerEntries.{optionalNumber}
 use Rattle.step.specs.InnerSteps.{UnderIs, FrameIs}
 use Rattle.step.proofs.PlanLaws.{no-state, two-frames}
 use borrow.Author.Needs.{needs}
@@ -47,9 +47,9 @@ enum-told : tie.Need-enum-told
 enum-told c = search needs
 
 returns : tie.Need-returns
-returns c = λ a k P y q.
+returns c = λ a k P.
     let e = subst (FrameIs _ a k) (c .enum-told .given .1) (c .before .before .frame-above .ensures a k P) in
-    absurd (no-state k (omega (arith, ap length e)) y q)
+    sym (ap optionalNumber (no-state k (omega (arith, ap length e))))
 
 frame-above-requires-2 : tie.Need-frame-above-requires-2
 frame-above-requires-2 c κs = let p = c .before .before .before .before .before .pre in (_, _, first c (p .0) (p .1) (p .2) .parent)
@@ -61,26 +61,19 @@ enum-told-2 : tie.Need-enum-told-2
 enum-told-2 c = search needs
 
 returns-2 : tie.Need-returns-2
-returns-2 c = λ a k P y q.
+returns-2 c = λ a k P.
     let G = first (c .before .before .before) a k P in
     let e = subst (FrameIs _ _ (G .rest)) (c .enum-told2 .given .1) (c .before .before .frame-above2 .ensures _ (G .rest) (G .parent)) in
-    absurd (no-state k (omega (arith, ap length (G .is), ap length e)) y q)
+    sym (ap optionalNumber (no-state k (omega (arith, ap length (G .is), ap length e))))
 
 state-of-requires : tie.Need-state-of-requires
-state-of-requires c κs =
-    let before = c .before .before .before .before in
-    let p = before .before .before .before .before .before .pre in
-    let G = first before (p .0) (p .1) (p .2) in
-    let H = second c (p .0) (p .1) G in
-    omega (arith, G .kind, H .kind, kind-small (G .side) (G .operator), kind-small (H .side) (H .operator))
+state-of-requires c κs = search needs
 
 returns-3 : tie.Need-returns-3
 returns-3 c = λ a k P.
     let G = first (c .before .before .before .before .before) a k P in
     let H = second (c .before) a k G in
-    two-frames (G .side) (G .operator) (G .sibling) (H .side) (H .operator) (H .sibling) (H .rest)
-    (G .is ∙ ap (λ (r : List Frame). frame (G .side) (G .operator) (G .sibling) ∷ r) (H .is))
-    (c .state-of .ensures (G .side) (G .operator) (H .side) (H .operator) (G .kind) (H .kind))
+    two-frames G H (c .state-of .ensures (G .side) (G .operator) (H .side) (H .operator) (G .kind) (H .kind))
 
 pub first-state-spec : {M : Type 1} → statement M
 first-state-spec =

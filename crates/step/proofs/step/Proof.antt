@@ -76,8 +76,7 @@ next-state-requires : tie.Need-next-state-requires
 next-state-requires c κs =
     let L = c .before .before .before .before .before .before .before .before .before .before .before .before .before .before .before .before .before .pre .0 in
     let word = c .before .before .before .before .before .before .before .before .before .before .move-word in
-    let H = plan (c .before .before .before .before .before .before .before .before .before .before .before) (L .0) (L .1) (L .2) in
-    (word .ensures, in-table H .2)
+    word .ensures
 
 same-length : tie.Need-same-length
 same-length c = search needs
