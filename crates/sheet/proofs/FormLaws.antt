@@ -18,7 +18,7 @@ use Rattle.text.specs.Parts.{Parts, last, part, split, join}
 use Rattle.text.specs.Line.{tab}
 use Rattle.text.proofs.DecimalLaws.{and-both, digits-decimal, digits-free}
 use Rattle.text.proofs.PartsLaws.{split-last, split-all, split-first, join-split}
-use Rattle.sheet.specs.Form.{letterG, letterK, letterL, letterU, letterD, letterE, mostPosition, isPosition, mostLevels, isLevels, letterOf, ranged, bare, oneNumber, twoNumbers, formOf, lineOf}
+use Rattle.sheet.specs.Form.{letterG, letterK, letterL, letterE, letterFor, mostPosition, isPosition, mostLevels, isLevels, letterOf, ranged, bare, oneNumber, twoNumbers, formOf, lineOf}
 use Rattle.sheet.specs.Rules.{Rules, sheetRules}
 use Rattle.sheet.specs.InnerHolding.{InRange}
 use Rattle.sheet.specs.declared.Line.{Line}
@@ -184,38 +184,40 @@ two-lift kind p n o u e f q =
 pub two-other : (kind : ℕ) (o u : Option ℕ) → (kind ≡ letterL → ⊥) → Bad ≡ twoNumbers kind o u
 two-other kind o u h = rw (ne-eqb kind letterL h)
 
--- ---- the numbers of every line are in their ranges, where the rules have no group that trees do not have
-either : (b : Bool) (x y : Line) → (b ≡ true → InRange x) → InRange y → InRange (cond b x y)
-either true x y p q = p refl
-either false x y p q = q
+-- what holds of both lines of a test holds of the one that it takes
+pub either : (P : Line → Type 0) (b : Bool) (x y : Line) → (b ≡ true → P x) → P y → P (cond b x y)
+either P true x y p q = p refl
+either P false x y p q = q
 
+-- ---- the numbers of every line are in their ranges, where the rules have no group that trees do not have
 bare-range : (kind : ℕ) → InRange (bare kind)
 bare-range kind =
-    either (eqb kind letterU) _ _ (λ e. (union, refl)) (either (eqb kind letterD) _ _ (λ e. (difference, refl)) (either (eqb kind letterE) End Bad (λ e. tt) tt))
+    either InRange (eqb kind (letterFor union)) _ _ (λ e. (union, refl))
+    (either InRange (eqb kind (letterFor difference)) _ _ (λ e. (difference, refl)) (either InRange (eqb kind letterE) End Bad (λ e. tt) tt))
 
 levels-range : (p : ℕ) → p ≤ mostPosition → (o : Option ℕ) → InRange (ranged isLevels (λ n. Lift p n) o)
 levels-range p h none = tt
 levels-range p h (some n) =
-    either (isLevels n) (Lift p n) Bad
+    either InRange (isLevels n) (Lift p n) Bad
     (λ e. let z = and-both (leb 1 n) (leb n mostLevels) e in record { position-most = h; levels-least = leb-true 1 n (z .0); levels-most = leb-true n mostLevels (z .1) })
     tt
 
 lift-range : (o u : Option ℕ) → InRange (ranged isPosition (λ p. ranged isLevels (λ n. Lift p n) u) o)
 lift-range none u = tt
-lift-range (some p) u = either (isPosition p) (ranged isLevels (λ n. Lift p n) u) Bad (λ e. levels-range p (leb-true p mostPosition e) u) tt
+lift-range (some p) u = either InRange (isPosition p) (ranged isLevels (λ n. Lift p n) u) Bad (λ e. levels-range p (leb-true p mostPosition e) u) tt
 
 module _ (rules : Rules) (most : rules .lastGroup ≤ mostGroup) where
   group-range : (form : ℕ → Line) → ((n : ℕ) → isGroup n ≡ true → InRange (form n)) → (o : Option ℕ) → InRange (ranged (isUpTo (rules .lastGroup)) form o)
   group-range form f none = tt
-  group-range form f (some n) = either (isUpTo (rules .lastGroup) n) (form n) Bad (λ e. f n (up-to-more (rules .lastGroup) mostGroup n most e)) tt
+  group-range form f (some n) = either InRange (isUpTo (rules .lastGroup) n) (form n) Bad (λ e. f n (up-to-more (rules .lastGroup) mostGroup n most e)) tt
 
   form-range : (ps : Parts) → InRange (formOf rules ps)
   unfolding formOf
   form-range (last kind) = bare-range (letterOf kind)
   form-range (part kind (last f)) =
-      either (eqb (letterOf kind) letterG) _ _ (λ e. group-range Group (λ n g. g) (decimal f))
-      (either (eqb (letterOf kind) letterK) _ _ (λ e. group-range Mark (λ n g. g) (decimal f)) tt)
-  form-range (part kind (part f (last g))) = either (eqb (letterOf kind) letterL) _ _ (λ e. lift-range (decimal f) (decimal g)) tt
+      either InRange (eqb (letterOf kind) letterG) _ _ (λ e. group-range Group (λ n g. g) (decimal f))
+      (either InRange (eqb (letterOf kind) letterK) _ _ (λ e. group-range Mark (λ n g. g) (decimal f)) tt)
+  form-range (part kind (part f (last g))) = either InRange (eqb (letterOf kind) letterL) _ _ (λ e. lift-range (decimal f) (decimal g)) tt
   form-range (part kind (part f (part g fs))) = tt
 
   pub line-range : (l : List ℕ) → InRange (lineOf rules l)

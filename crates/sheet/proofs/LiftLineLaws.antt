@@ -8,17 +8,18 @@ use native.Mathlib.Omega.{arith}
 use borrow.Author.Tests.{eqb-true, ltb-true}
 use lib.Dec.{eqb, ltb}
 use lib.ListN.{length, drop, length-append, length-drop}
-use Rattle.tree.specs.Tree.{isUpTo, union, difference, sign}
+use Rattle.tree.specs.Tree.{union, difference}
 use Rattle.text.specs.Decimal.{decimal, value, leadingZero, allDigits}
 use Rattle.text.specs.Parts.{Parts, last, part, split, join}
 use Rattle.text.specs.Line.{tab, lineFeed}
 use Rattle.text.proofs.PartsLaws.{join-split}
-use Rattle.sheet.specs.Form.{letterG, letterU, letterD, letterL, letterK, letterE, isPosition, isLevels, letterOf, ranged, bare, oneNumber, twoNumbers, formOf, lineOf}
+use Rattle.sheet.specs.Form.{letterG, letterL, letterK, letterE, letterFor, isPosition, isLevels, letterOf, ranged, bare, oneNumber, twoNumbers, formOf, lineOf}
 use Rattle.sheet.specs.InnerLines.{firstLine, lineAt, LiftsTo}
 use Rattle.sheet.specs.Rules.{Rules}
 use Rattle.sheet.specs.Reading.{LiftLine}
 use Rattle.sheet.specs.declared.Line.{Line}
 use Rattle.sheet.specs.declared.Line.the-variants.{Group, Operator, Lift, Mark, End, Bad}
+use Rattle.sheet.proofs.FormLaws.{either}
 
 differ : {X : Type 0} → _≡_ {A = ℕ} 0 1 → X
 differ e = absurd (omega arith)
@@ -44,30 +45,19 @@ isLift Bad = false
 no-lift : {X : Type 0} (l : Line) (p n : ℕ) → isLift l ≡ false → l ≡ Lift p n → X
 no-lift l p n e f = absurd (true≢false (sym (ap isLift f) ∙ e))
 
+other : (b : Bool) (x y : Line) → isLift x ≡ false → isLift y ≡ false → isLift (cond b x y) ≡ false
+other b x y p q = either (λ l. isLift l ≡ false) b x y (λ _. p) q
+
 bare-other : (k : ℕ) → isLift (bare k) ≡ false
-bare-other k = go (eqb k letterU) (eqb k letterD) (eqb k letterE)
-  where
-    go : (a b c : Bool) → isLift (cond a (Operator (sign union)) (cond b (Operator (sign difference)) (cond c End Bad))) ≡ false
-    go true b c = refl
-    go false true c = refl
-    go false false true = refl
-    go false false false = refl
+bare-other k =
+    other (eqb k (letterFor union)) _ _ refl (other (eqb k (letterFor difference)) _ _ refl (other (eqb k letterE) _ _ refl refl))
 
 ranged-other : (passes : ℕ → Bool) (form : ℕ → Line) (o : Option ℕ) → ((g : ℕ) → isLift (form g) ≡ false) → isLift (ranged passes form o) ≡ false
 ranged-other passes form none f = refl
-ranged-other passes form (some g) f = go (passes g)
-  where
-    go : (b : Bool) → isLift (cond b (form g) Bad) ≡ false
-    go true = f g
-    go false = refl
+ranged-other passes form (some g) f = other (passes g) _ _ (f g) refl
 
 one-other : (rules : Rules) (k : ℕ) (o : Option ℕ) → isLift (oneNumber rules k o) ≡ false
-one-other rules k o = go (eqb k letterG) (eqb k letterK)
-  where
-    go : (a b : Bool) → isLift (cond a (ranged (isUpTo (rules .lastGroup)) Group o) (cond b (ranged (isUpTo (rules .lastGroup)) Mark o) Bad)) ≡ false
-    go true b = ranged-other _ Group o (λ g. refl)
-    go false true = ranged-other _ Mark o (λ g. refl)
-    go false false = refl
+one-other rules k o = other (eqb k letterG) _ _ (ranged-other _ Group o (λ g. refl)) (other (eqb k letterK) _ _ (ranged-other _ Mark o (λ g. refl)) refl)
 
 -- a letter is one byte
 letter-one : (k : List ℕ) → letterOf k ≡ letterL → length k ≡ 1
@@ -81,11 +71,7 @@ two-long k f g p n e = go (eqb (letterOf k) letterL) refl (decimal f) refl (deci
     go : (b : Bool) → eqb (letterOf k) letterL ≡ b → (x : Option ℕ) → decimal f ≡ x → (y : Option ℕ) → decimal g ≡ y
         → cond b (ranged isPosition (λ p. ranged isLevels (λ n. Lift p n) y) x) Bad ≡ Lift p n → (length k ≡ 1) × (1 ≤ length f) × (1 ≤ length g)
     go true q (some x) r (some y) s e = (letter-one k (eqb-true (letterOf k) letterL q), decimal-some f x r, decimal-some g y s)
-    go true q (some x) r none s e = no-lift (cond (isPosition x) Bad Bad) p n (both (isPosition x)) e
-      where
-        both : (b : Bool) → isLift (cond b Bad Bad) ≡ false
-        both true = refl
-        both false = refl
+    go true q (some x) r none s e = no-lift (cond (isPosition x) Bad Bad) p n (other (isPosition x) _ _ refl refl) e
     go true q none r y s e = no-lift Bad p n refl e
     go false q x r y s e = no-lift Bad p n refl e
 

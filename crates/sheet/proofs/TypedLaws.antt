@@ -21,10 +21,10 @@ use Rattle.text.specs.Parts.{split, join}
 use Rattle.text.specs.Line.{tab, lineFeed, fields, line}
 use Rattle.text.proofs.DecimalLaws.{digits-length, decimal-digits}
 use Rattle.text.proofs.LineLaws.{Plain, line-splits, fields-split}
-use Rattle.sheet.specs.Form.{letterG, letterE, formOf, lineOf}
+use Rattle.sheet.specs.Form.{letterG, letterE, letterFor, formOf, lineOf}
 use Rattle.sheet.specs.Rules.{Rules}
 use Rattle.sheet.specs.Reading.{mostBytes, ReadingState, ended, trees, faultOf, stateAfter, accepted, readLines, readWith}
-use Rattle.sheet.specs.Typed.{letterFor, treeLines, typed}
+use Rattle.sheet.specs.Typed.{treeLines, typed}
 use Rattle.sheet.specs.declared.Line.{Line}
 use Rattle.sheet.specs.declared.Line.the-variants.{Group, Operator, End}
 

@@ -4,7 +4,7 @@ use mathlib.Core.List.{List, [], _∷_}
 use mathlib.Core.Option.{Option, some, none}
 use Prim.Native.Nat.{ℕ}
 use lib.Dec.{eqb, leb}
-use Rattle.tree.specs.Tree.{isUpTo, union, difference, sign}
+use Rattle.tree.specs.Tree.{Operator as TreeOperator, isUpTo, union, difference, sign}
 use Rattle.text.specs.Decimal.{decimal}
 use Rattle.text.specs.Parts.{Parts, last, part, split}
 use Rattle.text.specs.Line.{tab}
@@ -12,15 +12,9 @@ use Rattle.sheet.specs.Rules.{Rules}
 use Rattle.sheet.specs.declared.Line.{Line}
 use Rattle.sheet.specs.declared.Line.the-variants.{Group, Operator, Lift, Mark, End, Bad}
 
--- the letters of the kinds: "`G`", "`U`", "`D`", "`L`", "`K`", "`E`"
+-- the letters of the kinds: "`G`", "`L`", "`K`", "`E`"
 abbrev pub letterG : ℕ
 letterG = 71
-
-abbrev pub letterU : ℕ
-letterU = 85
-
-abbrev pub letterD : ℕ
-letterD = 68
 
 abbrev pub letterL : ℕ
 letterL = 76
@@ -30,6 +24,11 @@ letterK = 75
 
 abbrev pub letterE : ℕ
 letterE = 69
+
+-- those of the operators: "`U`, `D`: the tree"
+abbrev pub letterFor : TreeOperator → ℕ
+letterFor union = 85
+letterFor difference = 68
 
 -- "position (0 to 8190)"
 abbrev pub mostPosition : ℕ
@@ -61,7 +60,8 @@ ranged passes form (some n) = cond (passes n) (form n) Bad
 -- "`U`, `D`: the tree"; "`E`: end." An operator is its number in the tree's list.
 abbrev pub bare : ℕ → Line
 bare kind =
-    cond (eqb kind letterU) (Operator (sign union)) (cond (eqb kind letterD) (Operator (sign difference)) (cond (eqb kind letterE) End Bad))
+    cond (eqb kind (letterFor union)) (Operator (sign union))
+    (cond (eqb kind (letterFor difference)) (Operator (sign difference)) (cond (eqb kind letterE) End Bad))
 
 -- "`G` group"; "`K` group ..: a mark.": from 1 to the rules' last one
 abbrev pub oneNumber : Rules → ℕ → Option ℕ → Line

@@ -1,14 +1,9 @@
 -- Request 5: a tree "typed as tree lines" and "closed by `E`": the bytes of the file for it. The theorems on marking speak of them.
 use mathlib.Core.List.{List, [], _∷_, _++_}
 use Prim.Native.Nat.{ℕ}
-use Rattle.tree.specs.Tree.{Operator, union, difference, Tree, leaf, node}
+use Rattle.tree.specs.Tree.{Tree, leaf, node}
 use Rattle.text.specs.Line.{line}
-use Rattle.sheet.specs.Form.{letterG, letterU, letterD, letterE}
-
--- the letter of an operator's line
-abbrev pub letterFor : Operator → ℕ
-letterFor union = letterU
-letterFor difference = letterD
+use Rattle.sheet.specs.Form.{letterG, letterE, letterFor}
 
 -- the lines of a tree's nodes, in the order of its list
 unfoldable pub treeLines : Tree → List ℕ
