@@ -9,7 +9,7 @@ use native.Mathlib.Omega.{arith}
 use lib.Dec.{eqb}
 use borrow.Author.Tests.{not-true, not-false}
 use lib.ListN.{length, getD}
-use Rattle.tree.specs.Tree.{plus, minus, Tree, isGroup, isIn}
+use Rattle.tree.specs.Tree.{Basic, plus, minus, Tree, isGroup, isIn}
 use Rattle.tree.specs.InnerGroups.{Distinct}
 use Rattle.table.specs.InnerTable.{filling}
 use Rattle.table.proofs.TableLaws.{rowOf, row-below, row-agree, row-filling}
@@ -28,7 +28,7 @@ use Rattle.splits.specs.declared.Use.{Use}
 use Rattle.splits.specs.declared.Use.the-variants.{No, Plain, First, Second}
 use Rattle.splits.specs.declared.Split.{Split}
 use Rattle.builder.specs.InnerBuilding.{join, single, leftTree, rightTree, outer, variableTree, formed, without, build, Buildable}
-use Rattle.builder.proofs.JoinLaws.{selectsOptional, OverOptional, join-over, single-selects, single-over}
+use Rattle.builder.proofs.JoinLaws.{selectsOptional, OverOptional, PlainOptional, join-plain, join-over, single-selects, single-over, single-plain}
 use Rattle.builder.proofs.FormLaws.{formed-selects}
 use Rattle.builder.proofs.RowLaws.{without-counts, row-around, split-row, half-rows, may-use}
 use Rattle.builder.proofs.TakenLaws.{BelowSays, Taken, is-taken}
@@ -88,46 +88,65 @@ module _ (v : ℕ → Bool) (h : Option Tree) where
       let l = without-counts gs (s .variable) (S .below) n e in
       agree-split n e r s S _ _ (build-agrees choice n l (S .first)) (build-agrees choice n l (S .second))
 
--- ---- over which groups
-module _ (m : ℕ → Bool) (x a b : Option Tree) (q : OverOptional m x) (p : OverOptional m a) (r : OverOptional m b) where
-  pub left-over : (form : Form) → OverOptional m (leftTree form x a)
-  left-over Drop = p
-  left-over Less = p
-  left-over Plus = p
-  left-over ReducedPlus = join-over m minus a x p q
-  left-over JoinedLess = join-over m plus a x p q
-  left-over LessOutside = p
-  left-over ReducedUnion = join-over m minus a x p q
-  left-over JoinedDifference = join-over m plus a x p q
+-- ---- what holds where there is no tree, and of two trees' join if of both, holds of the tree built if of the variables' trees
+module _ (P : Option Tree → Type 0) (nothing : P none) (joins : (o : Basic) (a b : Option Tree) → P a → P b → P (join o a b)) where
+  pub left-holds : (x a : Option Tree) → P x → P a → (form : Form) → P (leftTree form x a)
+  left-holds x a q p Drop = p
+  left-holds x a q p Less = p
+  left-holds x a q p Plus = p
+  left-holds x a q p ReducedPlus = joins minus a x p q
+  left-holds x a q p JoinedLess = joins plus a x p q
+  left-holds x a q p LessOutside = p
+  left-holds x a q p ReducedUnion = joins minus a x p q
+  left-holds x a q p JoinedDifference = joins plus a x p q
 
-  pub right-over : (form : Form) → OverOptional m (rightTree form x b)
-  right-over Drop = tt
-  right-over Less = join-over m minus x b q r
-  right-over Plus = join-over m minus x b q r
-  right-over ReducedPlus = join-over m minus x b q r
-  right-over JoinedLess = join-over m minus x b q r
-  right-over LessOutside = join-over m minus b x r q
-  right-over ReducedUnion = r
-  right-over JoinedDifference = r
+  pub right-holds : (x b : Option Tree) → P x → P b → (form : Form) → P (rightTree form x b)
+  right-holds x b q r Drop = nothing
+  right-holds x b q r Less = joins minus x b q r
+  right-holds x b q r Plus = joins minus x b q r
+  right-holds x b q r ReducedPlus = joins minus x b q r
+  right-holds x b q r JoinedLess = joins minus x b q r
+  right-holds x b q r LessOutside = joins minus b x r q
+  right-holds x b q r ReducedUnion = r
+  right-holds x b q r JoinedDifference = r
 
-  formed-over : (form : Form) → OverOptional m (formed form x a b)
-  formed-over form = join-over m (outer form) (leftTree form x a) (rightTree form x b) (left-over form) (right-over form)
+  -- whatever the tables are, if of every number's tree
+  build-each : (h : Option Tree) → ((g : ℕ) → P (variableTree h g)) → (choice : Holder → Table → ℕ → ℕ) (k : ℕ) (m : Holder) (t : Table) (gs : List ℕ) → P (build choice k m t gs h)
+  unfolding build
+  build-each h own choice zero m t gs = nothing
+  build-each h own choice (suc n) m t gs =
+      let s = splitTaken m t n (choice m t n) in
+      let x = own (getD gs (s .variable) 0) in
+      joins (outer (s .form)) _ _ (left-holds _ _ x (build-each h own choice n _ _ _) (s .form)) (right-holds _ _ x (build-each h own choice n _ _ _) (s .form))
 
+  -- of buildable ones, if of their own variables' trees
+  build-holds : (h : Option Tree) (choice : Holder → Table → ℕ → ℕ) (k : ℕ) {m : Holder} {t : Table} {gs : List ℕ} → length gs ≡ k → Buildable m t gs
+      → ((g : ℕ) → isIn gs g ≡ true → P (variableTree h g)) → P (build choice k m t gs h)
+  unfolding build
+  build-holds h choice zero e r own = nothing
+  build-holds h choice (suc n) {m} {t} {gs} e r own =
+      let s = splitTaken m t n (choice m t n) in
+      let S = split-buildable n (choice m t n) e r in
+      let l = without-counts gs (s .variable) (S .below) n e in
+      let rest : (g : ℕ) → isIn (without (s .variable) gs) g ≡ true → P (variableTree h g) = λ g q. own g (in-without gs (s .variable) (S .below) g q) in
+      let x = own (getD gs (s .variable) 0) (variable-in gs (s .variable) (S .below)) in
+      joins (outer (s .form)) _ _ (left-holds _ _ x (build-holds h choice n l (S .first) rest) (s .form)) (right-holds _ _ x (build-holds h choice n l (S .second) rest) (s .form))
+
+-- over which groups
 pub group-over : (p : ℕ → Bool) (h : Option Tree) (x : ℕ) → isGroup x ≡ true → p x ≡ true → OverOptional p (variableTree h x)
 group-over p h x g e = subst (λ (b : Bool). OverOptional p (cond b h (single x))) (sym (group-not-zero x g)) (single-over p x g e)
 
--- if each variable's tree is over groups that pass p, so is the tree built
 pub build-over : (p : ℕ → Bool) (h : Option Tree) (choice : Holder → Table → ℕ → ℕ) (k : ℕ) {m : Holder} {t : Table} {gs : List ℕ} → length gs ≡ k → Buildable m t gs
     → ((g : ℕ) → isIn gs g ≡ true → OverOptional p (variableTree h g)) → OverOptional p (build choice k m t gs h)
-unfolding build
-build-over p h choice zero e r own = tt
-build-over p h choice (suc n) {m} {t} {gs} e r own =
-    let s = splitTaken m t n (choice m t n) in
-    let S = split-buildable n (choice m t n) e r in
-    let l = without-counts gs (s .variable) (S .below) n e in
-    let rest : (g : ℕ) → isIn (without (s .variable) gs) g ≡ true → OverOptional p (variableTree h g) = λ g q. own g (in-without gs (s .variable) (S .below) g q) in
-    formed-over p (variableTree h (getD gs (s .variable) 0)) _ _ (own (getD gs (s .variable) 0) (variable-in gs (s .variable) (S .below)))
-    (build-over p h choice n l (S .first) rest) (build-over p h choice n l (S .second) rest) (s .form)
+build-over p = build-holds (OverOptional p) tt (join-over p)
+
+-- without an `I`, where the holder has none
+pub build-plain : (h : Option Tree) → PlainOptional h → (choice : Holder → Table → ℕ → ℕ) (k : ℕ) (m : Holder) (t : Table) (gs : List ℕ) → PlainOptional (build choice k m t gs h)
+build-plain h p = build-each PlainOptional tt join-plain h (λ x. go x (eqb x 0))
+  where
+    go : (x : ℕ) (b : Bool) → PlainOptional (cond b h (single x))
+    go x true = p
+    go x false = single-plain x
 
 -- ---- a row that is 1 needs a tree
 fits-some : (r : Row) (v : ℕ → Bool) (o : Option Tree) → r .on ≡ true → fits r (selectsOptional v o) ≡ true → (u : Tree) × (o ≡ some u)

@@ -4,8 +4,9 @@ use mathlib.Core.Bool.{Bool, true, false, _&&_}
 use mathlib.Core.Option.{Option, some, none}
 use Prim.Native.Nat.{ℕ}
 use lib.Dec.{T}
-use Rattle.tree.specs.Tree.{Basic, plus, minus, operatorOf, Tree, leaf, isGroup, apply, selects, Over}
+use Rattle.tree.specs.Tree.{Basic, plus, minus, operatorOf, Tree, leaf, isGroup, apply, selects, Over, WithoutIntersection}
 use Rattle.tree.proofs.TreeLaws.{or-false}
+use Rattle.tree.specs.Pass.{Entry, group, operator, neither, entryOf}
 use Rattle.tree.proofs.PassLaws.{entry-leaf}
 use Rattle.builder.specs.InnerBuilding.{join, leafOf, single}
 
@@ -20,7 +21,21 @@ abbrev pub OverOptional : (ℕ → Bool) → Option Tree → Type 0
 OverOptional m none = Unit {0}
 OverOptional m (some t) = Over m t
 
+-- no node of it, if there is a tree, is an `I`
+abbrev pub PlainOptional : Option Tree → Type 0
+PlainOptional none = Unit {0}
+PlainOptional (some t) = WithoutIntersection t
+
 -- ---- union and difference that know the empty case
+pub join-plain : (o : Basic) (a b : Option Tree) → PlainOptional a → PlainOptional b → PlainOptional (join o a b)
+unfolding WithoutIntersection
+join-plain plus none b p q = q
+join-plain plus (some a) none p q = p
+join-plain plus (some a) (some b) p q = (p, q)
+join-plain minus none b p q = tt
+join-plain minus (some a) none p q = p
+join-plain minus (some a) (some b) p q = (p, q)
+
 and-true : (a : Bool) → a ≡ a && true
 and-true true = refl
 and-true false = refl
@@ -57,3 +72,12 @@ single-selects v x e = ap (selectsOptional v) (single-leaf x e)
 pub single-over : (m : ℕ → Bool) (x : ℕ) → isGroup x ≡ true → m x ≡ true → OverOptional m (single x)
 unfolding Over
 single-over m x e h = subst (OverOptional m) (sym (single-leaf x e)) h
+
+pub single-plain : (x : ℕ) → PlainOptional (single x)
+unfolding WithoutIntersection
+single-plain x = go (entryOf x)
+  where
+    go : (e : Entry) → PlainOptional (leafOf e)
+    go (group g h) = tt
+    go (operator o) = tt
+    go neither = tt

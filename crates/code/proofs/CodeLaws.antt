@@ -8,8 +8,8 @@ use native.Mathlib.Omega.{arith}
 use borrow.Author.Tests.{eq-eqb, ne-eqb}
 use lib.Dec.{T}
 use lib.ListN.{length, length-append}
-use Rattle.tree.specs.Tree.{Operator, union, difference, Tree, leaf, node, isGroup, size, Rig, apply, selects, selected, Over}
-use Rattle.player.specs.Instructions.{Lamps, Registers, combined, Instruction, load, operate, run, numbersOf}
+use Rattle.tree.specs.Tree.{Operator, union, difference, intersection, Tree, leaf, node, isGroup, size, Rig, apply, selects, selected, Over, WithoutIntersection}
+use Rattle.player.specs.Instructions.{Lamps, Registers, both, combined, Instruction, load, operate, run, numbersOf}
 use Rattle.player.proofs.InstructionLaws.{run-append, numbers-length}
 use Rattle.code.specs.Need.{leftFirst, inOrder}
 use Rattle.code.proofs.NeedLaws.{first, second, in-order-node, in-order-by, mostWaiting, waiting-node, waiting-need, need-positive}
@@ -63,6 +63,7 @@ pub record Leaves (rig : Rig) (t : Tree) (k : ℕ) (is : List Instruction) : Typ
 operation-applies : (o : Operator) (f g : Lamps) → combined (operation o) f g ≡ (λ lamp. apply o (f lamp) (g lamp))
 operation-applies union f g = refl
 operation-applies difference f g = refl
+operation-applies intersection f g = refl
 
 module _ (rig : Rig) where
   operation-target : (o : Operator) (R : Registers) (k a b : ℕ) (f g : Lamps) → R a ≡ f → R b ≡ g
@@ -156,3 +157,26 @@ loads m =
     (λ k o l r x y p q h. unfold Over Every in
     every-append (Loads m) x _ (p (over-cond m (leftFirst l r) l r (h .0) (h .1)))
     (every-append (Loads m) y _ (q (over-cond m (leftFirst l r) r l (h .1) (h .0))) (tt, tt)))
+
+-- ---- request 6: the code of a tree without `I` has no BOTH
+abbrev pub NotBoth : Instruction → Type 0
+NotBoth (load target group) = Unit {0}
+NotBoth (operate o target s t) = o ≡ both → ⊥
+
+operands-without : (o : Operator) (l r : Tree) → WithoutIntersection (node o l r) → (operation o ≡ both → ⊥) × WithoutIntersection l × WithoutIntersection r
+unfolding WithoutIntersection
+operands-without union l r w = (λ e. let z : _≡_ {A = ℕ} 0 1 = cc in omega arith, w .0, w .1)
+operands-without difference l r w = (λ e. let z : _≡_ {A = ℕ} 0 1 = cc in omega arith, w .0, w .1)
+operands-without intersection l r w = absurd w
+
+without-cond : (f : Bool) (l r : Tree) → WithoutIntersection l → WithoutIntersection r → WithoutIntersection (cond f l r)
+without-cond true l r p q = p
+without-cond false l r p q = q
+
+pub without-both : (t : Tree) (k : ℕ) → WithoutIntersection t → Every NotBoth (code t k)
+without-both =
+    code-by (λ k t is. WithoutIntersection t → Every NotBoth is)
+    (λ k g h w. unfold Every in (tt, tt))
+    (λ k o l r x y p q w. let v = operands-without o l r w in
+    every-append NotBoth x _ (p (without-cond (leftFirst l r) l r (v .1) (v .2)))
+    (every-append NotBoth y (combine k o (leftFirst l r) ∷ []) (q (without-cond (leftFirst l r) r l (v .2) (v .1))) (unfold Every in (v .0, tt))))

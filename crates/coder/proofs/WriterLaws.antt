@@ -4,15 +4,15 @@ use mathlib.Core.Bool.{Bool, true, false, cond}
 use mathlib.Core.List.{List, [], _∷_, _++_, append-assoc}
 use Prim.Native.Nat.{ℕ, suc, _+_, _-_, _*_, _≤_, _<_}
 use native.Mathlib.Omega.{arith}
-use lib.Dec.{T}
+use lib.Dec.{T, eqb}
 use lib.ListN.{length, getD, set, length-set}
-use Rattle.tree.specs.Tree.{Operator, union, difference, Tree, leaf, node, sign, isGroup, size}
+use Rattle.tree.specs.Tree.{Operator, union, difference, intersection, Tree, leaf, node, sign, isGroup, size}
 use Rattle.tree.specs.InnerWriting.{Wrote}
 use Rattle.tree.proofs.TreeLaws.{size-positive, group-most}
 use Rattle.tree.proofs.PartLaws.{part-leaf, part-node}
 use Rattle.tree.proofs.WritingLaws.{wrote-then, wrote-as}
 use Rattle.player.specs.Limits.{registerCount}
-use Rattle.player.specs.Instructions.{add, cut, loadKind, kindOf, numbersOf}
+use Rattle.player.specs.Instructions.{add, cut, both, loadKind, kindOf, numbersOf}
 use Rattle.player.proofs.InstructionLaws.{numbers-append}
 use Rattle.code.specs.Need.{need, leftFirst}
 use Rattle.code.proofs.NeedLaws.{first, second, need-node, need-positive}
@@ -39,13 +39,12 @@ unfolding numbersOf
 numbers-node o l r k a b e f =
     rw (code-node o l r k, numbers-append, numbers-append, e, f) (simp append-assoc)
 
-pub kind-union : (x : ℕ) → x ≡ sign union → (o : Operator) → x ≡ sign o → kindOf add ≡ kindOf (operation o)
-kind-union x e union h = refl
-kind-union x e difference h = absurd (omega arith)
-
-pub kind-difference : (x : ℕ) → (x ≡ sign union → ⊥) → (o : Operator) → x ≡ sign o → kindOf cut ≡ kindOf (operation o)
-kind-difference x n union h = absurd (n h)
-kind-difference x n difference h = refl
+-- the kind of an operator's instruction, by one test of its number after the other
+pub kind-by-number : (x : ℕ) (o : Operator) → x ≡ sign o
+    → cond (eqb x (sign union)) (kindOf add) (cond (eqb x (sign difference)) (kindOf cut) (kindOf both)) ≡ kindOf (operation o)
+kind-by-number x union h = rw h
+kind-by-number x difference h = rw h
+kind-by-number x intersection h = rw h
 
 -- what a call for the node at `end` promises: the code of its part
 abbrev pub Writes : List ℕ → ℕ → ℕ → List ℕ → ℕ → List ℕ → ℕ → Type 0

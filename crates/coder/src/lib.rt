@@ -133,10 +133,12 @@ fn kind_of(x: u16) -> u16
     ensures { λ r. ⌜ ((o : Operator) → x ≡ sign o → r ≡ kindOf (operation o)) ⌝ }
 {
     if x == tree::UNION {
-        player::ADD
-    } else {
-        player::CUT
+        return player::ADD;
     }
+    if x == tree::DIFFERENCE {
+        return player::CUT;
+    }
+    player::BOTH
 }
 
 // Writes the code of the node at `end` from index `at` on, and returns the index after it.

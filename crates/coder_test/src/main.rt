@@ -211,6 +211,15 @@ fn example() {
     case(b"example", &tree);
 }
 
+// Request 6's operator: 1 in both with 2 in both with 3.
+fn intersections() {
+    case(
+        b"two intersections",
+        &[1, 2, 3, tree::INTERSECTION, tree::INTERSECTION],
+    );
+    case(b"operator 65004", &[7, 8, 65004]);
+}
+
 // 20 alone, and 20 before 12.
 fn buffers() {
     show(b"32,763 numbers", &[7], &mut [BEFORE; 32763]);
@@ -235,6 +244,7 @@ fn too_long() {
 
 fn main() {
     example();
+    intersections();
     case(b"a leaf", &[60000]);
     large(b"complete", 0);
     large(b"chain to the left", 1);

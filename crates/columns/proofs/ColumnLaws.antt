@@ -21,15 +21,16 @@ use Rattle.splits.specs.InnerSplits.{choose}
 use Rattle.splits.specs.declared.Holder.the-variants.{Absent, Held}
 use Rattle.builder.specs.InnerBuilding.{postfixOptional, join, single, build, mostBuilt, mostFor, Ready, between, Holding}
 use Rattle.builder.proofs.ReadyLaws.{variable-in}
-use Rattle.builder.proofs.JoinLaws.{single-leaf}
+use Rattle.builder.proofs.JoinLaws.{PlainOptional, join-plain, single-leaf, single-plain}
+use Rattle.builder.proofs.BuildLaws.{build-plain}
 use Rattle.builder.proofs.WritingLaws.{optional-length, wrote-join}
 use Rattle.builder.proofs.SizeLaws.{build-size}
 use Rattle.columns.specs.InnerChoosing.{failing, settled, choice}
-use Rattle.columns.specs.InnerJoining.{exactTable, differs, firstRows, columnTable, heldTable, holderTree, columnsTree, constantTree}
+use Rattle.columns.specs.InnerJoining.{exactTable, differs, firstRows, columnTable, heldTable, holderTree, columnsTree, constantTree, treeFor}
 use Rattle.columns.specs.Inner.{Scanned, HasRows, tableFrom, BuiltFrom, Room, ColumnsReady, ConstantReady}
 use Rattle.columns.specs.declared.Rows.{Rows}
 use Rattle.columns.specs.declared.Choice.{Choice}
-use Rattle.columns.specs.declared.Choice.the-variants.{Constant}
+use Rattle.columns.specs.declared.Choice.the-variants.{Never, Constant, Columns}
 
 -- ---- rows of a column
 pub row-column : (w n i : ℕ) → 0 < w → i < w * n → i / w < n
@@ -252,3 +253,15 @@ module _ (T : ℕ → Bool) {ms us : List ℕ} {w columns room p start : ℕ} (s
             → Wrote out 0 o e (postfixOptional (columnsTree T ms us p start))
         unfolding columnsTree
         columns-wrote {out} {o} {e} b = rw one-more at (rw (held-table T s p g, v) at (b .wrote H holder-list (q .holder)))
+
+-- ---- no such tree has an `I`
+pub tree-for-plain : (T : ℕ → Bool) (ms us : List ℕ) (c : Choice) → PlainOptional (treeFor T ms us c)
+unfolding constantTree columnsTree holderTree
+tree-for-plain T ms us Never = tt
+tree-for-plain T ms us Constant =
+    join-plain plus (build choose (length us) Absent (firstRows T ms us) us none) (join minus (single (getD ms 0 0)) (single (getD ms 0 0)))
+    (build-plain none tt choose (length us) Absent (firstRows T ms us) us)
+    (join-plain minus (single (getD ms 0 0)) (single (getD ms 0 0)) (single-plain (getD ms 0 0)) (single-plain (getD ms 0 0)))
+tree-for-plain T ms us (Columns low high start) =
+    build-plain (build choose (length ms) Absent (columnTable T ms us start) ms none) (build-plain none tt choose (length ms) Absent (columnTable T ms us start) ms)
+    choose (suc (length us)) Held (heldTable T ms us (low + high)) (us ++ (0 ∷ []))

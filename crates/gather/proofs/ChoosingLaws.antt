@@ -12,18 +12,18 @@ use lib.Pow.{pow-pos}
 use lib.Dec.{eqb, ltb}
 use borrow.Author.Tests.{eqb-true, ltb-true, ltb-false}
 use lib.ListN.{length, getD, length-append}
-use Rattle.tree.specs.Tree.{difference, plus, minus, Tree, leaf, node, isGroup, size, selects, Over, Equivalent, isIn}
+use Rattle.tree.specs.Tree.{difference, plus, minus, Tree, leaf, node, isGroup, size, selects, Over, WithoutIntersection, Equivalent, isIn}
 use Rattle.tree.proofs.TreeLaws.{or-false, is-in-append, or-cases, in-left, in-right, selects-equivalent}
 use Rattle.table.specs.InnerTable.{filling}
 use Rattle.table.proofs.TableLaws.{rowOf, Tabled, row-below, row-append, row-agree, row-filling, selects-row, value-zero}
 use Rattle.free_tables.proofs.SearchLaws.{Fails, first-fails}
 use Rattle.splits.specs.InnerSplits.{choose, canHold}
 use Rattle.builder.specs.InnerBuilding.{join, single, variableTree, build, Buildable}
-use Rattle.builder.proofs.JoinLaws.{selectsOptional, OverOptional, join-selects, join-over, single-leaf, single-over, group-holds}
+use Rattle.builder.proofs.JoinLaws.{selectsOptional, OverOptional, PlainOptional, join-selects, join-over, single-leaf, single-over, group-holds}
 use Rattle.forms.proofs.TestLaws.{beq-true}
 use Rattle.builder.proofs.ReadyLaws.{variable-in}
 use Rattle.builder.proofs.BuildLaws.{group-over, build-over, build-some}
-use Rattle.columns.proofs.ColumnLaws.{plus-not, row-column}
+use Rattle.columns.proofs.ColumnLaws.{plus-not, row-column, tree-for-plain}
 use Rattle.columns.specs.InnerJoining.{differs, columnTable, heldTable, firstRows, holderTree, columnsTree, constantTree, treeFor}
 use Rattle.splits.specs.declared.Holder.the-variants.{Absent, Held}
 use Rattle.columns.specs.InnerChoosing.{agrees, failing, settled, chosenAt, choice}
@@ -76,6 +76,7 @@ pub record Result (m Ta : ℕ → Bool) (ms us : List ℕ) (t : Tree) (c : Choic
   pub position : ℕ
   pub gathered : Gathered m tree position
   pub own : Over (isIn (ms ++ us)) tree
+  pub plain : WithoutIntersection tree
   pub tables : Tables Ta ms us c
 
 abbrev pub Verdict : (ℕ → Bool) → (ℕ → Bool) → List ℕ → List ℕ → Tree → Choice → Type 0
@@ -252,6 +253,7 @@ module _ (Ta : ℕ → Bool) (ms us : List ℕ) {m : ℕ → Bool} (parts : Mark
         position = columns-gathered .position;
         gathered = columns-gathered .gathered;
         own = subst (OverOptional (isIn (ms ++ us))) (columns-gathered .is) columns-own;
+        plain = subst PlainOptional (columns-gathered .is) (tree-for-plain Ta ms us (Columns low high start));
         tables = record {
           row = row-inside;
           inside = let l = mul-le-mul-left w (c .other-below) in omega (arith, mul-suc w (c .other), c .starts);
@@ -311,6 +313,7 @@ module _ (Ta : ℕ → Bool) (ms us : List ℕ) {m : ℕ → Bool} (parts : Mark
         position = constant-gathered .position;
         gathered = constant-gathered .gathered;
         own = subst (OverOptional (isIn (ms ++ us))) (constant-gathered .is) constant-own;
+        plain = subst PlainOptional (constant-gathered .is) (tree-for-plain Ta ms us Constant);
         tables = first-ready;
         equivalent = selects-equivalent t (constant-gathered .tree) (λ v. sym (constant-selects v) ∙ ap (selectsOptional v) (constant-gathered .is));
       }

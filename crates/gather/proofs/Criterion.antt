@@ -1,13 +1,13 @@
--- The statement of the theorem that proofs/Theorem.antt proves: what decides whether a tree can be gathered. Only laws cite it; the
--- contracts speak of gathered trees alone.
+-- The statements that proofs/Theorem.antt proves: what decides whether a tree can be gathered, and that trees with an `I` change no
+-- verdict. Only laws cite them; the contracts speak of gathered trees alone.
 -- Its columns decide. With each unmarked group fixed as in or out, what the tree selects depends on the marked groups only: that
 -- is a column. The tree can be gathered exactly when all its columns that are not constant are the same. A holder that selects by
 -- that column, or by its complement, then serves.
 use mathlib.Core.Path.{_≡_}
 use mathlib.Core.Bool.{Bool, true, false, cond}
 use Prim.Native.Nat.{ℕ}
-use Rattle.tree.specs.Tree.{Tree, selects}
-use Rattle.gather.specs.Gathering.{CannotBeGathered}
+use Rattle.tree.specs.Tree.{Tree, selects, WithoutIntersection, Equivalent}
+use Rattle.gather.specs.Gathering.{Gathered, CannotBeGathered}
 
 -- the filling that is p at the groups that m marks and r at the others
 abbrev pub mixed : (ℕ → Bool) → (ℕ → Bool) → (ℕ → Bool) → ℕ → Bool
@@ -45,3 +45,7 @@ pub record Criterion (m : ℕ → Bool) (t : Tree) : Type 0 where
   pub columns-cannot : TwoColumns m t → CannotBeGathered m t
   pub cannot-fillings : CannotBeGathered m t → FiveFillings m t
   pub fillings-cannot : FiveFillings m t → CannotBeGathered m t
+
+-- "no gathered equivalent tree exists", judged against trees without `I` alone, those of 01
+pub record CannotBeGatheredWithoutIntersection (m : ℕ → Bool) (t : Tree) : Type 0 where
+  pub never : (u : Tree) (p : ℕ) → WithoutIntersection u → Equivalent t u → Gathered m u p → ⊥

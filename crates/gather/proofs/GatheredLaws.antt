@@ -3,19 +3,24 @@ use mathlib.Core.Path.{_≡_, refl, sym, ap, ap₂, subst, _∙_}
 use mathlib.Core.Logic.{inl, inr}
 use mathlib.Core.List.{List, [], _∷_}
 use mathlib.Core.Option.{Option, some, none}
-use Prim.Native.Nat.{ℕ}
+use Prim.Native.Nat.{ℕ, _^_}
 use native.Mathlib.Omega.{arith}
-use lib.ListN.{take}
+use lib.ListN.{length, take, drop}
 use Rattle.common.specs.Answer.{done, refusedWith}
-use Rattle.tree.specs.Tree.{Tree, postfix, size, isIn}
+use Rattle.tree.specs.Tree.{Tree, postfix, size, leaves, isIn, collect, WithoutIntersection}
 use Rattle.tree.proofs.TreeLaws.{postfix-length}
 use Rattle.tree.proofs.ParseLaws.{postfix-injective}
 use Rattle.tree.proofs.WritingLaws.{take-over}
+use Rattle.table.specs.InnerTable.{table, rowsOf}
+use Rattle.builder.proofs.JoinLaws.{PlainOptional}
+use Rattle.columns.specs.InnerChoosing.{choice}
+use Rattle.columns.proofs.ColumnLaws.{tree-for-plain}
 use Rattle.gather.specs.Gathering.{Gathered}
 use Rattle.gather.specs.Answer.{GatheredTo}
 use Rattle.holding.specs.InnerHolding.{status}
-use Rattle.gather.specs.InnerGathered.{gatheredAs, gatheredBy, namedBy, holderOf, Returned}
+use Rattle.gather.specs.InnerGathered.{rearranged, gatheredAs, gatheredBy, namedBy, holderOf, Returned}
 use Rattle.holding.specs.declared.Status.{Status}
+use Rattle.holding.specs.declared.Status.the-variants.{Free, Mixed, All, Held}
 use Rattle.gather.specs.declared.Gathering.{Gathering}
 use Rattle.gather.specs.declared.Gathering.the-variants.{Done, Refused}
 use Rattle.gather.proofs.HoldingLaws.{Names, gathered-status}
@@ -56,3 +61,19 @@ named-tree {t} {marks} {out} {out′} {n} {k} G (some u) R =
 pub named-none : {marks out out′ : List ℕ} {n : ℕ} (o : Option Tree) → Returned marks o out out′ (Refused n) → o ≡ none
 named-none none R = refl
 named-none (some u) R = let e = R .says in let z : _≡_ {A = ℕ} 0 1 = cc in absurd (omega arith)
+
+-- ---- request 6: of a tree without `I`, the tree returned is so too
+pub gathered-plain : (t : Tree) (marks : List ℕ) (u : Tree) → gatheredBy t marks ≡ some u → WithoutIntersection t → WithoutIntersection u
+unfolding gatheredBy
+gathered-plain t marks u e w = subst PlainOptional e (go (status (isIn marks) 0 t))
+  where
+    built : PlainOptional (rearranged t marks)
+    built = let gs = collect marks (leaves t) in
+        let T = rowsOf (table gs t) in
+        tree-for-plain T (take (length marks) gs) (drop (length marks) gs) (choice T (2 ^ length marks) (2 ^ length gs))
+
+    go : (s : Status) → PlainOptional (gatheredAs s t marks)
+    go Free = built
+    go Mixed = built
+    go (All k) = w
+    go (Held k) = w

@@ -7,7 +7,7 @@ use mathlib.Core.List.{List, [], _∷_, _++_, append-assoc, append-nil}
 use Prim.Native.Nat.{ℕ, _+_, _-_}
 use native.Mathlib.Omega.{arith}
 use lib.ListN.{length, length-append}
-use Rattle.tree.specs.Tree.{Operator, union, difference, Tree, node, postfix, size, apply, selects, Over}
+use Rattle.tree.specs.Tree.{Operator, union, difference, intersection, Tree, node, postfix, size, apply, selects, Over}
 use Rattle.tree.specs.Context.{Side, left, right, Frame, frame, sided, plug, before, OverAbove}
 use Rattle.tree.proofs.ContextLaws.{selectsAbove, selects-plug, plug-append}
 use Rattle.tree.proofs.TreeLaws.{postfix-length, size-positive, selects-agree, equivalent-selects}
@@ -72,6 +72,9 @@ left-of union false false b p q = absurd (true≢false (sym p ∙ q))
 left-of difference true false b p q = (refl, refl)
 left-of difference true true b p q = absurd (true≢false (sym p ∙ q))
 left-of difference false y b p q = absurd (true≢false (sym p))
+left-of intersection true false b p q = (refl, refl)
+left-of intersection true true b p q = absurd (true≢false (sym p ∙ q))
+left-of intersection false y b p q = absurd (true≢false (sym p))
 
 right-union : (x y b : Bool) → apply union b x ≡ true → apply union b y ≡ false → (x ≡ true) × (y ≡ false)
 right-union x y true p q = absurd (true≢false q)
@@ -83,11 +86,16 @@ right-difference false true true p q = (refl, refl)
 right-difference false false true p q = absurd (true≢false q)
 right-difference x y false p q = absurd (true≢false (sym p))
 
+right-intersection : (x y b : Bool) → apply intersection b x ≡ true → apply intersection b y ≡ false → (x ≡ true) × (y ≡ false)
+right-intersection x y true p q = (p, q)
+right-intersection x y false p q = absurd (true≢false (sym p))
+
 -- a frame keeps the holder's value, or turns it over
 abbrev turned : Side → Operator → Bool → Bool
 turned left o b = b
 turned right union b = b
 turned right difference b = not b
+turned right intersection b = b
 
 turned-by : (s : Side) (o : Operator) (x y b c : Bool) → sided s (apply o) x b ≡ c → sided s (apply o) y b ≡ not c → (x ≡ turned s o c) × (y ≡ not (turned s o c))
 turned-by left o x y b true p q = left-of o x y b p q
@@ -96,6 +104,8 @@ turned-by right union x y b true p q = right-union x y b p q
 turned-by right union x y b false p q = let z = right-union y x b q p in (z .1, z .0)
 turned-by right difference x y b true p q = let z = right-difference x y b p q in (z .1, z .0)
 turned-by right difference x y b false p q = right-difference y x b q p
+turned-by right intersection x y b true p q = right-intersection x y b p q
+turned-by right intersection x y b false p q = let z = right-intersection y x b q p in (z .1, z .0)
 
 unfoldable polarity : List Frame → Bool
 polarity [] = true

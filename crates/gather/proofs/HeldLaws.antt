@@ -26,7 +26,7 @@ use Rattle.builder.proofs.JoinLaws.{OverOptional, join-over}
 use Rattle.builder.proofs.RowLaws.{half-rows, without-counts, usable-by}
 use Rattle.builder.proofs.TakenLaws.{BelowSays, Taken, is-taken}
 use Rattle.builder.proofs.ReadyLaws.{SplitBuildable, split-buildable, top-may, in-without, variable-in, group-tree, without-last, without-below}
-use Rattle.builder.proofs.BuildLaws.{left-over, right-over, group-over, build-over, build-some, build-dropped, dropped-part}
+use Rattle.builder.proofs.BuildLaws.{left-holds, right-holds, group-over, build-over, build-some, build-dropped, dropped-part}
 use Rattle.columns.proofs.ColumnLaws.{plus-not}
 use Rattle.gather.specs.Gathering.{Gathered}
 use Rattle.gather.proofs.GatheringLaws.{unmarked, gathered-left, gathered-right}
@@ -125,7 +125,7 @@ module _ {m : ℕ → Bool} (x a b : Option Tree) where
   left-first JoinedDifference g p = join-left plus a x g p
 
   formed-first : (form : Form) → GatheredSome m a → OverOptional (unmarked m) x → OverOptional (unmarked m) b → GatheredSome m (formed form x a b)
-  formed-first form g p q = join-left (outer form) (leftTree form x a) (rightTree form x b) (left-first form g p) (right-over (unmarked m) x none b p tt q form)
+  formed-first form g p q = join-left (outer form) (leftTree form x a) (rightTree form x b) (left-first form g p) (right-holds (OverOptional (unmarked m)) tt (join-over (unmarked m)) x b p q form)
 
   -- the holder in b
   second-gathered : (form : Form) → Kept form a → GatheredSome m b → Some x → OverOptional (unmarked m) x → GatheredSome m (rightTree form x b)
@@ -140,7 +140,7 @@ module _ {m : ℕ → Bool} (x a b : Option Tree) where
 
   formed-second : (form : Form) → Kept form a → GatheredSome m b → Some x → OverOptional (unmarked m) x → OverOptional (unmarked m) a → GatheredSome m (formed form x a b)
   formed-second form k g s p q =
-      join-right (outer form) (leftTree form x a) (rightTree form x b) (left-some x a form k s) (left-over (unmarked m) x a none p q tt form) (second-gathered form k g s p)
+      join-right (outer form) (leftTree form x a) (rightTree form x b) (left-some x a form k s) (left-holds (OverOptional (unmarked m)) tt (join-over (unmarked m)) x a p q form) (second-gathered form k g s p)
 
 keeps-by : (form : Form) (t : Table) (a b : Option Tree) → keepsHolder form t ≡ true → (someOn (firstPart form t (half t)) ≡ true → Some a) → (someOn (secondPart form t (half t)) ≡ true → Some b)
     → Keeps form a b

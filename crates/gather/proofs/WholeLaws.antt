@@ -217,6 +217,7 @@ module _ {list gs : List ℕ} {m : ℕ} (o : Ordered list gs m) where
             equivalent = result n .equivalent;
             gathered = subst (Gathered (isIn (take m gs)) (result n .tree)) (holder-of (take m gs) (result n .gathered) ∙ sym (ap namedBy (named (result n .tree) front))) (result n .gathered);
             own = over-implies (λ g h. o .own t e g (subst (λ (xs : List ℕ). isIn xs g ≡ true) (take-append-drop m gs) h)) (result n .tree) (result n .own);
+            plain = λ p. result n .plain;
             most = small;
             counted = omega (arith, tree-wrote .ends, postfix-length (result n .tree));
             written = wrote-over tree-wrote (omega (arith, small, postfix-length (result n .tree)));
@@ -444,6 +445,7 @@ copied {list} {marks} {out} {out′} {n} {k} t e s w named =
       equivalent = equivalent-refl t;
       gathered = status-gathered (isIn marks) t k named;
       own = over-collect [] t;
+      plain = λ p. p;
       most = m;
       counted = omega (arith, v .ends, postfix-length t);
       written = wrote-over v (omega (arith, postfix-length t));

@@ -7,7 +7,7 @@ use Prim.Native.Nat.{ℕ, _≤_}
 use lib.Dec.{eqb, ltb}
 use lib.ListN.{length}
 use Rattle.common.specs.Answer.{Answer, done, refusedWith}
-use Rattle.tree.specs.Tree.{Tree, postfix, size, mostNodes, Over, Equivalent, isIn, groups, mostGroups}
+use Rattle.tree.specs.Tree.{Tree, postfix, size, mostNodes, Over, WithoutIntersection, Equivalent, isIn, groups, mostGroups}
 use Rattle.tree.specs.Parse.{treeOf}
 use Rattle.tree.specs.Writing.{over}
 use Rattle.gather.specs.Gathering.{Gathered, CannotBeGathered}
@@ -43,12 +43,14 @@ gatherFault list marks room = cond (ltb room mostNodes) 11 (treeFault (treeOf li
 -- ---- what is promised
 -- "A tree already gathered comes back unchanged. Otherwise the tree returned is free: equivalent, gathered, over groups of
 -- the given tree only, within 8,191 nodes". "Past the result nothing is written."
+-- Request 6, a key of an older sheet stays what it was: "where the given tree is without `I` the tree returned is so too".
 pub record GatheredTo (t : Tree) (marks out out′ : List ℕ) (nodes holder : ℕ) : Type 0 where
   pub result : Tree
   pub unchanged : (p : ℕ) → Gathered (isIn marks) t p → result ≡ t
   pub equivalent : Equivalent t result
   pub gathered : Gathered (isIn marks) result holder
   pub own : Over (isIn (groups t)) result
+  pub plain : WithoutIntersection t → WithoutIntersection result
   pub most : size result ≤ mostNodes
   pub counted : nodes ≡ size result
   pub written : out′ ≡ over (postfix result) out

@@ -16,6 +16,7 @@ pub record Gathered (m : ℕ → Bool) (t : Tree) (p : ℕ) : Type 0 where
   pub others : OverAbove (λ g. not (m g)) above
   pub at : p ≡ position holder above
 
--- "19 exactly when no gathered equivalent tree exists; here trees of any size and over any groups count"
+-- "19 exactly when no gathered equivalent tree exists; here trees of any size and over any groups count"; request 6: "Gathering is now
+-- judged against trees that may use all three operators"
 pub record CannotBeGathered (m : ℕ → Bool) (t : Tree) : Type 0 where
   pub never : (u : Tree) (p : ℕ) → Equivalent t u → Gathered m u p → ⊥

@@ -4,6 +4,7 @@
 // tree's first entries.
 use gather::Gathering;
 use tree::DIFFERENCE;
+use tree::INTERSECTION;
 use tree::UNION;
 
 const BEFORE: u16 = 61000;
@@ -53,6 +54,10 @@ fn print_entry(x: u16) {
     }
     if x == DIFFERENCE {
         io::write_all(1, b" D");
+        return;
+    }
+    if x == INTERSECTION {
+        io::write_all(1, b" I");
         return;
     }
     io::write_all(1, b" ");
@@ -155,6 +160,21 @@ fn each_once() {
     );
 }
 
+// Trees with an intersection: gathered already, rebuilt without one, and refused.
+fn intersections() {
+    show(b"gathered by I", &[3, 1, 2, 65001, 65003], &[1, 2]);
+    show(
+        b"I on either side",
+        &[1, 3, 65003, 3, 2, 65003, 65001],
+        &[1, 2],
+    );
+    show(
+        b"19 I with two groups",
+        &[1, 3, 65003, 2, 4, 65003, 65001],
+        &[1, 2],
+    );
+}
+
 // 11 alone, and before 12.
 fn short_buffers() {
     show_short(b"11 a buffer of 8190", &[1, 2, 65002], &[1]);
@@ -240,6 +260,7 @@ fn main() {
     samples();
     others();
     each_once();
+    intersections();
     short_buffers();
     no_trees();
     many_groups();

@@ -4,5 +4,6 @@ pub mod EncodingLaws
 pub mod FinishLaws
 pub mod DemandLaws
 pub mod SameKeyLaws
+pub mod OlderLaws
 pub mod SampleLaws
 pub mod AnswerLaws

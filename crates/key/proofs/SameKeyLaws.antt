@@ -1,18 +1,38 @@
 -- Keys that stay the same, byte for byte, when the rules of reading change: lifts, gathering and code do not depend on them.
-use mathlib.Core.Path.{_≡_, sym, ap, _∙_}
+use mathlib.Core.Path.{_≡_, refl, sym, ap, _∙_}
 use mathlib.Core.Bool.{true≢false}
 use mathlib.Core.Logic.{_⊎_, inl, inr}
 use mathlib.Core.List.{List}
 use Prim.Native.Nat.{ℕ, _+_}
 use native.Mathlib.Omega.{arith}
-use Rattle.sheet.specs.Rules.{Rules, Stricter, baseRules, earlierRules, sheetRules}
+use Rattle.sheet.specs.Rules.{Rules, Stricter, baseRules, earlierRules, twoOperatorRules, sheetRules}
 use Rattle.sheet.specs.Reading.{ReadingState, accepted, refused, readWith, reading}
-use Rattle.sheet.proofs.RulesLaws.{Outcomes, same, no-node, no-group, no-task, two-rules, stricter-accepts, fewer-nodes, more-groups}
+use Rattle.sheet.proofs.RulesLaws.{Outcomes, same, no-node, no-group, no-task, no-intersection, two-rules, stricter-accepts, fewer-nodes, more-groups, third-operator}
 use Rattle.key.specs.InnerKeyOf.{keyBy, keyWith, keyOf}
 
 -- a sheet that rules accept has the same key by looser ones
 pub same-key : (few more : Rules) → Stricter few more → (s : List ℕ) (st : ReadingState) → readWith few s ≡ accepted st → keyWith few s ≡ keyWith more s
 same-key few more h s st e = ap keyBy (e ∙ sym (stricter-accepts few more h s st e))
+
+-- by rules with as many nodes as today's and with tasks, a sheet that they refuse has its `NO` line to this day, unless that is 2
+pub unless-2 : (few : Rules) → Stricter few sheetRules → few .nodes ≡ sheetRules .nodes → few .tasks ≡ sheetRules .tasks
+    → (s : List ℕ) → (keyOf s ≡ keyWith few s) ⊎ ((line : ℕ) × (readWith few s ≡ refused 2 line))
+unless-2 few h nodes tasks s = go (two-rules few sheetRules h s)
+  where
+    go : Outcomes few sheetRules (readWith few s) (reading s) → (keyOf s ≡ keyWith few s) ⊎ ((line : ℕ) × (readWith few s ≡ refused 2 line))
+    go (same e) = inl (ap keyBy (sym e))
+    go (no-node l e) = absurd (omega (arith, l))
+    go (no-group l line e) = inr (line, e)
+    go (no-task a b line e) = absurd (true≢false (sym tasks ∙ a))
+    go (no-intersection a b line e) = inr (line, e)
+
+-- Request 6: "the verdict on an older sheet must be unchanged": the keys of older sheets stay byte for byte what they were.
+pub keeps-older-key : (s : List ℕ) (st : ReadingState) → readWith twoOperatorRules s ≡ accepted st → keyOf s ≡ keyWith twoOperatorRules s
+keeps-older-key s st e = sym (same-key twoOperatorRules sheetRules third-operator s st e)
+
+-- So has a sheet that was refused, its `NO` line, unless that is 2: an `I` was "a line of no such form".
+pub older-unless-2 : (s : List ℕ) → (keyOf s ≡ keyWith twoOperatorRules s) ⊎ ((line : ℕ) × (readWith twoOperatorRules s ≡ refused 2 line))
+older-unless-2 = unless-2 twoOperatorRules third-operator refl refl
 
 -- Request 4: "A user with old sheets, accepted until now, sees the old keys."
 pub keeps-old-key : (s : List ℕ) (st : ReadingState) → readWith earlierRules s ≡ accepted st → keyOf s ≡ keyWith earlierRules s
@@ -20,13 +40,7 @@ keeps-old-key s st e = sym (same-key earlierRules sheetRules more-groups s st e)
 
 -- So has a sheet that was refused, its `NO` line, unless that is 2: "Form faults (2) .. follow the new range".
 pub keeps-unless-2 : (s : List ℕ) → (keyOf s ≡ keyWith earlierRules s) ⊎ ((line : ℕ) × (readWith earlierRules s ≡ refused 2 line))
-keeps-unless-2 s = go (two-rules earlierRules sheetRules more-groups s)
-  where
-    go : Outcomes earlierRules sheetRules (readWith earlierRules s) (reading s) → (keyOf s ≡ keyWith earlierRules s) ⊎ ((line : ℕ) × (readWith earlierRules s ≡ refused 2 line))
-    go (same e) = inl (ap keyBy (sym e))
-    go (no-node l e) = absurd (omega (arith, l))
-    go (no-group l line e) = inr (line, e)
-    go (no-task a b line e) = absurd (true≢false a)
+keeps-unless-2 = unless-2 earlierRules more-groups refl refl
 
 -- Request 1: "A sheet within the new limit gets the key it had": one that the rules with that limit accept has, to this day, the key
 -- that 01's gave it.
@@ -42,3 +56,4 @@ keeps-unless-5 s = go (two-rules earlierRules baseRules fewer-nodes s)
     go (no-node l e) = inr e
     go (no-group l line e) = absurd (omega (arith, l))
     go (no-task a b line e) = absurd (true≢false a)
+    go (no-intersection a b line e) = absurd (true≢false (sym b))

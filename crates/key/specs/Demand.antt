@@ -68,7 +68,8 @@ pub record Demand3 (t : Tree) (marks : List ℕ) (ls : List LiftLine) (done : Li
   -- (d) "No register above 12 is named."
   pub registers : Every (Names 0 registerCount) is
   -- (f) "`HELD` 19, "cannot be gathered", is answered for a sheet with marks exactly when no tree of unions and differences, of any
-  -- size and over any groups, selects the same lamps as the tree as written for all contents of the groups and is gathered for those marks."
+  -- size and over any groups, selects the same lamps as the tree as written for all contents of the groups and is gathered for those marks." Request 6:
+  -- "Gathering is now judged against trees that may use all three operators"
   pub never : held ≡ cannot → CannotBeGathered (isIn marks) t
   pub always : 1 ≤ length marks → CannotBeGathered (isIn marks) t → held ≡ cannot
   -- "A sheet so answered has no instructions."

@@ -8,46 +8,55 @@ use native.Mathlib.Omega.{arith}
 use borrow.Author.Tests.{le-ltb, ltb-false, leb-false}
 use lib.Dec.{eqb, leb, ltb}
 use lib.ListN.{length}
-use Rattle.tree.specs.Tree.{Tree, size, mostNodes, postfix, Equivalent, Over}
+use Rattle.tree.specs.Tree.{Tree, size, mostNodes, postfix, Equivalent, Over, WithoutIntersection}
 use Rattle.tree.specs.Context.{Frame, plug}
 use Rattle.tree.specs.Parse.{treeOf, locate}
 use Rattle.tree.proofs.TreeLaws.{equivalent-trans, equivalent-refl, selects-equivalent}
 use Rattle.tree.proofs.ContextLaws.{located-whole, position-most}
 use Rattle.tree.proofs.ParseLaws.{tree-of-sound, tree-of-postfix}
-use Rattle.step.specs.Step.{Outcome, stuck, moved, step}
+use Rattle.step.specs.Step.{Outcome, stuck, blocked, moved, step}
 use Rattle.lift.specs.Lift.{Result, refused, lifted, goesOn, steps, liftAt, liftIn, liftOf}
 use Rattle.lift.specs.Answer.{liftedSays, resultSays, Lifts}
 use Rattle.lift.specs.declared.Lifted.{Lifted}
 use Rattle.lift.specs.declared.Lifted.the-variants.{Done, Refused}
-use Rattle.step.proofs.StepLaws.{step-selects, step-over, step-over-back}
+use Rattle.step.proofs.StepLaws.{step-selects, step-over, step-over-back, step-without, never-blocked}
 
--- the tree u keeps of the tree t what it selects in every rig and the groups of its leaves, and is within the limit
+-- the tree u keeps of the tree t what it selects in every rig, the groups of its leaves and that it is without `I`, and is within the limit
 pub record Keeps (t u : Tree) : Type 0 where
   pub equivalent : Equivalent u t
   pub over : (m : ℕ → Bool) → Over m t → Over m u
   pub over-back : (m : ℕ → Bool) → Over m u → Over m t
+  pub without : WithoutIntersection t → WithoutIntersection u
   pub most : size u ≤ mostNodes
 
--- of a lift by so many levels in the tree t: a refusal's number has two digits; a lifted tree keeps all that, the position is one of its own, and
+-- of a lift by so many levels in the tree t: a refusal's number has two digits, and is not 27 if the tree is without `I`; a lifted tree keeps all that, the position is one of its own, and
 -- looks are as many as the levels
 pub record LiftedKeeps (t : Tree) (levels : ℕ) (u : Tree) (place looks : ℕ) : Type 0 where
   pub keeps : Keeps t u
   pub position-within : place < size u
   pub looks-are : looks ≡ levels
 
+pub record RefusedKeeps (t : Tree) (number : ℕ) : Type 0 where
+  pub small : number < 100
+  pub not-27 : WithoutIntersection t → number ≡ 27 → ⊥
+
 abbrev pub Kept : Tree → ℕ → Result → Type 0
-Kept t levels (refused number) = number < 100
+Kept t levels (refused number) = RefusedKeeps t number
 Kept t levels (lifted u place looks) = LiftedKeeps t levels u place looks
 
-kept-if : (t : Tree) (levels : ℕ) (b : Bool) (number : ℕ) (x : Result) → number < 100 → (b ≡ false → Kept t levels x) → Kept t levels (cond b (refused number) x)
+kept-if : (t : Tree) (levels : ℕ) (b : Bool) (number : ℕ) (x : Result) → RefusedKeeps t number → (b ≡ false → Kept t levels x) → Kept t levels (cond b (refused number) x)
 kept-if t levels true number x s h = s
 kept-if t levels false number x s h = h refl
+
+other : (t : Tree) (number : ℕ) → number < 27 → RefusedKeeps t number
+other t number h = record { small = omega arith; not-27 = λ w e. omega arith }
 
 step-keeps : (t a : Tree) (c e : List Frame) → step c ≡ moved e → Keeps t (plug a c) → size (plug a e) ≤ mostNodes → Keeps t (plug a e)
 step-keeps t a c e h K s = record {
   equivalent = equivalent-trans (selects-equivalent (plug a e) (plug a c) (λ v. step-selects c e h v a)) (K .equivalent);
   over = λ m o. step-over c e h m a (K .over m o);
   over-back = λ m o. K .over-back m (step-over-back c e h m a o);
+  without = λ w. step-without c e h a (K .without w);
   most = s;
 }
 
@@ -58,18 +67,19 @@ steps-keep (suc k) levels t a c looks q K = go (λ e. steps-keep k levels t a e 
   where
     go : ((e : List Frame) → Keeps t (plug a e) → Kept t levels (steps k a e (looks + 1))) → (o : Outcome) → step c ≡ o
         → Kept t levels (goesOn o a (λ e. steps k a e (looks + 1)))
-    go f stuck h = omega arith
+    go f stuck h = other t 15 (omega arith)
+    go f blocked h = record { small = omega arith; not-27 = λ w e. never-blocked c a (K .without w) h }
     go f (moved e) h =
-        kept-if t levels (ltb mostNodes (size (plug a e))) 16 (steps k a e (looks + 1)) (omega arith)
+        kept-if t levels (ltb mostNodes (size (plug a e))) 16 (steps k a e (looks + 1)) (other t 16 (omega arith))
         (λ b. f e (step-keeps t a c e h K (ltb-false mostNodes (size (plug a e)) b)))
 
 pub lift-in-keeps : (t : Tree) (p k : ℕ) → size t ≤ mostNodes → Kept t k (liftIn (some t) p k)
 lift-in-keeps t p k s =
-    kept-if t k (leb (size t) p) 13 (liftAt (locate t [] p) k) (omega arith)
+    kept-if t k (leb (size t) p) 13 (liftAt (locate t [] p) k) (other t 13 (omega arith))
     (λ b. let e : plug (locate t [] p .part) (locate t [] p .above) ≡ t = located-whole t p (leb-false (size t) p b) in
-    kept-if t k (eqb k 0 || leb (length (locate t [] p .above)) k) 14 (steps k (locate t [] p .part) (locate t [] p .above) 0) (omega arith)
+    kept-if t k (eqb k 0 || leb (length (locate t [] p .above)) k) 14 (steps k (locate t [] p .part) (locate t [] p .above) 0) (other t 14 (omega arith))
     (λ d. steps-keep k k t (locate t [] p .part) (locate t [] p .above) 0 (omega arith)
-    (subst (Keeps t) (sym e) (record { equivalent = equivalent-refl t; over = λ m o. o; over-back = λ m o. o; most = s }))))
+    (subst (Keeps t) (sym e) (record { equivalent = equivalent-refl t; over = λ m o. o; over-back = λ m o. o; without = λ w. w; most = s }))))
 
 -- the whole call, of a list l
 pub record LiftKeeps (l : List ℕ) (levels : ℕ) (u : Tree) (place looks : ℕ) : Type 0 where

@@ -13,7 +13,7 @@ use Rattle.tree.specs.Writing.{over}
 use Rattle.tree.specs.InnerWriting.{Wrote}
 use Rattle.tree.proofs.TreeLaws.{postfix-length}
 use Rattle.tree.proofs.WritingLaws.{wrote-over}
-use Rattle.step.specs.Step.{Outcome, stuck, step}
+use Rattle.step.specs.Step.{Outcome, stuck, blocked, step}
 use Rattle.step.specs.InnerStanding.{Standing}
 use Rattle.step.specs.InnerSteps.{StepTooLong, StepDone}
 use Rattle.step.specs.declared.Node.{Node}
@@ -37,6 +37,9 @@ module _ (a : Tree) (c : List Frame) (k looks : ℕ) (h : k ≡ 0 → ⊥) where
 
   pub stops : (out : List ℕ) → step c ≡ stuck → Lifts (steps k a c looks) out (Refused 15) out
   stops out q = says-as (one q) refl refl
+
+  pub is-blocked : (out : List ℕ) → step c ≡ blocked → Lifts (steps k a c looks) out (Refused 27) out
+  is-blocked out q = says-as (one q) refl refl
 
   pub grows-too-long : (out : List ℕ) → StepTooLong a c → Lifts (steps k a c looks) out (Refused 16) out
   grows-too-long out L = says-as (one (L .moves) ∙ ap (λ (b : Bool). cond b (refused 16) (rest (L .e))) (lt-ltb mostNodes (size (plug a (L .e))) (L .long))) refl refl

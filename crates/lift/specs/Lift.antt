@@ -8,17 +8,18 @@ use lib.ListN.{length}
 use Rattle.tree.specs.Tree.{Tree, size, mostNodes}
 use Rattle.tree.specs.Context.{Frame, plug, position, Place}
 use Rattle.tree.specs.Parse.{treeOf, locate}
-use Rattle.step.specs.Step.{Outcome, stuck, moved, step}
+use Rattle.step.specs.Step.{Outcome, stuck, blocked, moved, step}
 
 -- a lift is refused with its number, or gives the new tree, A's new position and the looks
 pub data Result : Type 0 where
   refused : ℕ → Result
   lifted : Tree → ℕ → ℕ → Result
 
--- how a lift of the part a goes on after a step: "15 the step .. has .. in states 5 to 9 no D; 16 the result passes 8,191 nodes"; else the
--- steps that are left
+-- how a lift of the part a goes on after a step: "15 the step .. has .. in states 5 to 9 no D; 16 the result passes 8,191 nodes"; request
+-- 6: "refused with 27"; else the steps that are left
 abbrev pub goesOn : Outcome → Tree → (List Frame → Result) → Result
 goesOn stuck a rest = refused 15
+goesOn blocked a rest = refused 27
 goesOn (moved e) a rest = cond (ltb mostNodes (size (plug a e))) (refused 16) (rest e)
 
 -- "A lift of several levels is that many steps, all or none": k steps of the part a in the context c, with the looks so far; "a step .. counts 1"

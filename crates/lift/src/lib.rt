@@ -16,7 +16,7 @@ use step::Stretch;
 use tree::MOST_NODES;
 use tree::UNION;
 
-// 01's numbers of refusal.
+// 01's numbers of refusal; the last is 02's, request 6.
 pub const SHORT_BUFFER: u16 = 11;
 
 pub const NOT_A_TREE: u16 = 12;
@@ -28,6 +28,8 @@ pub const BAD_LEVELS: u16 = 14;
 pub const NO_STEP: u16 = 15;
 
 pub const TOO_LONG: u16 = 16;
+
+pub const THROUGH_INTERSECTION: u16 = 27;
 
 // A lift's answer: how many nodes the new tree has, A's position and the looks; or the refusal's number.
 pub enum Lifted {
@@ -66,6 +68,7 @@ fn run(
     }
     match step::step(&x[..nodes], node, y) {
         Stepped::Stuck => Lifted::Refused(NO_STEP),
+        Stepped::Blocked => Lifted::Refused(THROUGH_INTERSECTION),
         Stepped::TooLong => Lifted::Refused(TOO_LONG),
         Stepped::Done(count, next) => run(y, x, count, next, levels - 1, looks + 1, out),
     }

@@ -15,7 +15,7 @@ use Rattle.sheet.specs.Form.{mostPosition, mostLevels}
 use Rattle.sheet.specs.Reading.{LiftLine}
 use Rattle.lift.specs.Lift.{Result, refused, lifted, liftOf}
 use Rattle.lift.specs.Answer.{liftBuffer, Lifts}
-use Rattle.lift.proofs.LiftLaws.{Kept, LiftedKeeps, lift-in-keeps, lift-of-tree, liftReply, lifts-reply}
+use Rattle.lift.proofs.LiftLaws.{Kept, RefusedKeeps, LiftedKeeps, lift-in-keeps, lift-of-tree, liftReply, lifts-reply}
 use Rattle.lift.specs.declared.Lifted.{Lifted}
 use Rattle.lift.specs.declared.Lifted.the-variants.{Done, Refused}
 use Rattle.printing.specs.Key.{LIFT}
@@ -74,6 +74,9 @@ module _ (entries new : List ℕ) (r : Lifted) (new′ : List ℕ) (t : Tree) (l
             looks-small = omega (arith, K .looks-are, few);
           }
 
+  refused-small : {number : ℕ} → lifting t l ≡ refused number → number < 100
+  refused-small {number} h = let K : RefusedKeeps t number = subst (Kept t (l .levels)) h kept in K .small
+
   pub refused-lift : (number : ℕ) → r ≡ Refused number → RefusedLift t l number
   refused-lift number e = go (lifting t l) refl (sym e ∙ answered)
     where
@@ -82,7 +85,7 @@ module _ (entries new : List ℕ) (r : Lifted) (new′ : List ℕ) (t : Tree) (l
       go (refused n) q f =
           let a : n ≡ number = cc in
           let h : lifting t l ≡ refused number = q ∙ rw a in
-          record { is = h; small = subst (Kept t (l .levels)) h kept }
+          record { is = h; small = refused-small h }
 
 -- ---- the two answers of `lift_one`
 pub lift-line-room : (number position looks at room : ℕ) → number < 100 → position < 10 ^ 4 → looks < 100 → at + liftBytes ≤ room → at + length (line LIFT (number ∷ position ∷ looks ∷ [])) ≤ room

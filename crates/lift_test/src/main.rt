@@ -6,6 +6,7 @@ ghost use Prim.Native.Nat.{_≤_};
 ghost use lib.ListN.{length};
 use lift::Lifted;
 use tree::DIFFERENCE;
+use tree::INTERSECTION;
 use tree::UNION;
 
 const BEFORE: u16 = 61000;
@@ -75,6 +76,10 @@ fn print_entry(x: u16) {
     }
     if x == DIFFERENCE {
         io::write_all(1, b" D");
+        return;
+    }
+    if x == INTERSECTION {
+        io::write_all(1, b" I");
         return;
     }
     io::write_all(1, b" ");
@@ -173,6 +178,27 @@ fn refusals() {
     );
 }
 
+// An intersection at each of the three places above A, needed and not.
+fn intersections() {
+    show(b"27 the parent", &[1, 2, 65003, 3, 65001], 0, 1);
+    show(b"27 the grandparent", &[3, 1, 2, 65002, 65003], 2, 1);
+    show(
+        b"27 the node above T",
+        &[1, 2, 65002, 3, 65001, 4, 65003],
+        0,
+        1,
+    );
+    show(b"not needed", &[4, 1, 2, 65002, 3, 65002, 65003], 1, 1);
+    show(
+        b"27 at the second step",
+        &[4, 1, 2, 65002, 3, 65002, 65003, 5, 65001],
+        1,
+        2,
+    );
+    show(b"14 before 27", &[1, 2, 65003, 3, 65001], 0, 2);
+    show(b"12 a fourth operator", &[1, 2, 65004], 0, 1);
+}
+
 // A chain of unions: the last position and the one after it, and many levels.
 fn long_chains() {
     let mut list = [1u16; 8191];
@@ -253,6 +279,7 @@ fn main() {
     refusals();
     level_two();
     state_nine();
+    intersections();
     long_chains();
     results();
     differences();

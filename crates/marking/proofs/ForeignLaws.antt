@@ -8,7 +8,7 @@ use native.Mathlib.Omega.{arith}
 use borrow.Author.Tests.{eqb-true, lt-ltb}
 use lib.Dec.{T, eqb, ltb}
 use lib.ListN.{length, getD, drop, drop-of-length-le}
-use Rattle.tree.specs.Tree.{Operator as TreeOperator, union, difference, sign, Tree, postfix, Over, isGroup, isIn}
+use Rattle.tree.specs.Tree.{Operator as TreeOperator, union, difference, intersection, sign, Tree, postfix, Over, isGroup, isIn}
 use Rattle.tree.specs.InnerGroups.{leavesIn}
 use Rattle.tree.proofs.TreeLaws.{group-most, over-leaves, leaves-over, over-implies, or-cases}
 use Rattle.tree.proofs.GroupLaws.{is-in-here, in-later, leaves-postfix}
@@ -17,44 +17,15 @@ use Rattle.text.specs.Parts.{Parts, last, part, split}
 use Rattle.text.specs.Line.{lineFeed}
 use Rattle.sheet.specs.Form.{lineOf}
 use Rattle.sheet.specs.Rules.{candidateRules}
-use Rattle.sheet.specs.Reading.{mostBytes, ReadingState, ended, trees, place, faultOf, stateAfter, nothingRead, accepted, refused, readLines, readWith}
+use Rattle.sheet.specs.Reading.{ReadingState, ended, trees, place, faultOf, stateAfter, nothingRead, accepted, readLines, readWith}
 use Rattle.sheet.specs.InnerHolding.{InRange}
 use Rattle.sheet.specs.declared.Line.{Line}
 use Rattle.sheet.specs.declared.Line.the-variants.{Group, Operator, Lift, Mark, End, Bad}
 use Rattle.sheet.proofs.FormLaws.{line-range}
 use Rattle.sheet.proofs.SoundLaws.{order-none, none-of, bad-fault}
-use Rattle.sheet.proofs.AcceptedLaws.{no-outcome}
+use Rattle.sheet.proofs.AcceptedLaws.{PassedLine, passed-line, passed-last, passed-start}
 use Rattle.marking.specs.Marking.{isForeign, foreignLine}
 use Rattle.marking.specs.Inner.{foreignEntry}
-
--- a line of an accepted file has no fault, and what comes after it is accepted
-record Passed (end st : ReadingState) (n at : ℕ) (k : Line) (ls : Parts) : Type 0 where
-  faultless : faultOf candidateRules st k ≡ 0
-  later : readLines candidateRules (stateAfter st k at) (n + 1) at ls ≡ accepted end
-
-passed : (end st : ReadingState) (n at : ℕ) (l : List ℕ) (ls : Parts) → readLines candidateRules st n at (part l ls) ≡ accepted end
-    → Passed end st n (at + length l + 1) (lineOf candidateRules l) ls
-unfolding readLines
-passed end st n at l ls e = go (eqb (faultOf candidateRules st k) 0) refl e
-  where
-    k : Line
-    k = lineOf candidateRules l
-
-    go : (b : Bool) → eqb (faultOf candidateRules st k) 0 ≡ b
-        → cond b (readLines candidateRules (stateAfter st k (at + length l + 1)) (n + 1) (at + length l + 1) ls) (refused (faultOf candidateRules st k) (n + 1)) ≡ accepted end
-        → Passed end st n (at + length l + 1) k ls
-    go true q e = record { faultless = eqb-true (faultOf candidateRules st k) 0 q; later = e }
-    go false q e = no-outcome e
-
--- nothing comes after the last line
-at-last : (end st : ReadingState) (n at : ℕ) (l : List ℕ) → readLines candidateRules st n at (last l) ≡ accepted end → st ≡ end
-unfolding readLines
-at-last end st n at l e = go (eqb (length l) 0) (eqb (st .phase) ended) e
-  where
-    go : (a b : Bool) → cond a (cond b (accepted st) (refused 10 (n + 1))) (refused 2 (n + 1)) ≡ accepted end → st ≡ end
-    go true true e = cc
-    go true false e = no-outcome e
-    go false b e = no-outcome e
 
 -- a group is below the operators, and an operator is no group
 group-small : (g : ℕ) → isGroup g ≡ true → g < sign union
@@ -63,6 +34,7 @@ group-small g e = omega (arith, group-most g (subst T (sym e) tt))
 operator-none : (groups : List ℕ) (o : TreeOperator) → false ≡ (ltb (sign o) (sign union) && not (isIn groups (sign o)))
 operator-none groups union = refl
 operator-none groups difference = refl
+operator-none groups intersection = refl
 
 -- ---- from a state on, the lines add these entries, of which the first foreign one is the first foreign line
 record Adds (groups : List ℕ) (end st : ReadingState) (n : ℕ) (ps : Parts) : Type 0 where
@@ -78,8 +50,8 @@ module _ (groups : List ℕ) (end : ReadingState) where
   -- after `E` no line is accepted
   after-end : (st : ReadingState) (n at : ℕ) (ps : Parts) → st .phase ≡ ended → readLines candidateRules st n at ps ≡ accepted end → (foreignLine groups n ps ≡ 0) × (st ≡ end)
   unfolding foreignLine
-  after-end st n at (last l) p e = (refl, at-last end st n at l e)
-  after-end st n at (part l ls) p e = absurd (no-more (lineOf candidateRules l) (passed end st n at l ls e .faultless))
+  after-end st n at (last l) p e = (refl, passed-last candidateRules end st n at l e)
+  after-end st n at (part l ls) p e = absurd (no-more (lineOf candidateRules l) (passed-line candidateRules end st n at l ls e .faultless))
     where
       most : (k : Line) → place k ≤ 3
       most Bad = omega arith
@@ -106,7 +78,7 @@ module _ (groups : List ℕ) (end : ReadingState) where
   LinesAdd ps = (st : ReadingState) (n at : ℕ) → readLines candidateRules st n at ps ≡ accepted end → Adds groups end st n ps
 
   -- a line of each kind
-  adds-line : (l : List ℕ) (ls : Parts) → LinesAdd ls → (st : ReadingState) (n at : ℕ) (k : Line) → lineOf candidateRules l ≡ k → InRange k → Passed end st n at k ls → Adds groups end st n (part l ls)
+  adds-line : (l : List ℕ) (ls : Parts) → LinesAdd ls → (st : ReadingState) (n at : ℕ) (k : Line) → lineOf candidateRules l ≡ k → InRange k → PassedLine candidateRules end st n at k ls → Adds groups end st n (part l ls)
   unfolding foreignLine foreignEntry faultOf
   adds-line l ls later st n at Bad q r p = absurd (bad-fault candidateRules st (p .faultless))
   adds-line l ls later st n at (Group g) q r p =
@@ -120,17 +92,13 @@ module _ (groups : List ℕ) (end : ReadingState) where
       record { more = []; entries = ap (λ (s : ReadingState). s .entries) (sym (e .1)) ∙ sym (append-nil (st .entries)); first = rw q (e .0) }
 
   lines-add : (ps : Parts) → LinesAdd ps
-  lines-add (last l) st n at e = adds-nothing st n l (at-last end st n at l e)
-  lines-add (part l ls) st n at e = adds-line l ls (lines-add ls) st n _ (lineOf candidateRules l) refl (line-range candidateRules (omega arith) l) (passed end st n at l ls e)
+  lines-add (last l) st n at e = adds-nothing st n l (passed-last candidateRules end st n at l e)
+  lines-add (part l ls) st n at e = adds-line l ls (lines-add ls) st n _ (lineOf candidateRules l) refl (line-range candidateRules (omega arith) l) (passed-line candidateRules end st n at l ls e)
 
 -- the first foreign line of an accepted drawing
 pub foreign-lines : (groups candidate : List ℕ) (c : ReadingState) → readWith candidateRules candidate ≡ accepted c → foreignLine groups 0 (split lineFeed candidate) ≡ foreignEntry groups 0 (c .entries)
-unfolding readWith
-foreign-lines groups candidate c e = go (ltb mostBytes (length candidate)) e
-  where
-    go : (b : Bool) → cond b (refused 1 0) (readLines candidateRules nothingRead 0 0 (split lineFeed candidate)) ≡ accepted c → foreignLine groups 0 (split lineFeed candidate) ≡ foreignEntry groups 0 (c .entries)
-    go true e = no-outcome e
-    go false e = let a = lines-add groups c (split lineFeed candidate) nothingRead 0 0 e in rw (a .entries) (a .first)
+foreign-lines groups candidate c e =
+    let a = lines-add groups c (split lineFeed candidate) nothingRead 0 0 (passed-start candidateRules c candidate e) in rw (a .entries) (a .first)
 
 -- ---- no entry is foreign exactly where the tree is over the groups
 module _ (groups : List ℕ) where

@@ -150,7 +150,7 @@ module _ (question : List ℕ) (q : ReadingState) (e : reading question ≡ acce
       let known : q .groups ≡ groups t = A .known ∙ ap groups as-written in
       let few : length (groups t) ≤ mostGroups = rw as-written at (A .different) in
       let over : Over (isIn (groups t)) u = over-implies (λ g i. leaves-over (isIn (groups t)) left (K .over (isIn (groups t)) (over-groups t)) g (sym (groups-leaves left g) ∙ i)) u own in
-      let read = typed-accepted candidateRules u (omega arith) most most (omega (arith, groups-most t u over)) in
+      let read = typed-accepted candidateRules u (omega arith) refl most most (omega (arith, groups-most t u over)) in
       record {
         state = q;
         drawn = _;

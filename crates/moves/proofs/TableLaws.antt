@@ -6,7 +6,7 @@ use mathlib.Core.List.{List, [], _∷_}
 use Prim.Native.Nat.{ℕ, zero, suc, _-_, _%_, _≤_, _<_}
 use native.Mathlib.Omega.{arith}
 use lib.ListN.{getD}
-use Rattle.tree.specs.Tree.{Operator, union, difference, Basic, plus, minus, operatorOf}
+use Rattle.tree.specs.Tree.{Operator, union, difference, intersection, Basic, plus, minus, operatorOf}
 use Rattle.tree.specs.Context.{Side, left, right}
 use Rattle.tree.specs.InnerPart.{kindOf}
 use Rattle.moves.specs.Moves.{State, state1, state2, state3, state4, state5, state6, state7, state8, state9, Input, inputA, inputB, inputC, inputD, stateOf, basic, stateWith, inputWith}
@@ -95,8 +95,10 @@ rest-input n = go (n % 4) (omega arith)
 pub kind-input : (s : Side) (o : Operator) → InputIs (kindOf s o) (inputWith s (basic o))
 kind-input left union = refl
 kind-input left difference = refl
+kind-input left intersection = omega arith
 kind-input right union = refl
 kind-input right difference = refl
+kind-input right intersection = omega arith
 
 -- the kinds below 4 are those of the two operators of the entries
 pub record IsBasic (o : Operator) : Type 0 where
@@ -107,12 +109,16 @@ pub record IsBasic (o : Operator) : Type 0 where
 pub small-kind : (s : Side) (o : Operator) → kindOf s o < 4 → IsBasic o
 small-kind s union h = record { same = plus; is = refl; back = refl }
 small-kind s difference h = record { same = minus; is = refl; back = refl }
+small-kind left intersection h = absurd (omega arith)
+small-kind right intersection h = absurd (omega arith)
 
 large-kind : (s : Side) (o : Operator) → 4 ≤ kindOf s o → basic o ≡ none
 large-kind left union h = absurd (omega arith)
 large-kind left difference h = absurd (omega arith)
+large-kind left intersection h = refl
 large-kind right union h = absurd (omega arith)
 large-kind right difference h = absurd (omega arith)
+large-kind right intersection h = refl
 
 -- the state by the numbers of two kinds
 module _ (s : Side) (o : Operator) (t : Side) (q : Operator) (m n : ℕ) (e : m ≡ kindOf s o) (f : n ≡ kindOf t q) where

@@ -2,7 +2,7 @@
 use mathlib.Core.Option.{Option, some, none}
 use mathlib.Core.Bool.{Bool, true, false, cond, _||_}
 use mathlib.Core.List.{List, [], _∷_, _++_}
-use Rattle.tree.specs.Tree.{Operator, union, difference, Basic, plus, minus, operatorOf, Tree, node}
+use Rattle.tree.specs.Tree.{Operator, union, difference, intersection, Basic, plus, minus, operatorOf, Tree, node}
 use Rattle.tree.specs.Context.{Side, left, right, Frame, frame}
 
 -- "A is the part lifted, B its sibling, C its uncle, D the sibling of the grandparent's part T": formulas over these
@@ -48,18 +48,19 @@ inputOf left minus = inputB
 inputOf right plus = inputC
 inputOf right minus = inputD
 
--- a tree's operator as one of these two
+-- a tree's operator as one of these two; an `I` is neither
 abbrev pub basic : Operator → Option Basic
 basic union = some plus
 basic difference = some minus
+basic intersection = none
 
--- the state, where both operators are
+-- the state, where neither is an `I`
 abbrev pub stateWith : Side → Option Basic → Side → Option Basic → Option State
 stateWith s (some o) t (some q) = some (stateOf s o t q)
 stateWith s (some o) t none = none
 stateWith s none t q = none
 
--- the input, where the operator is
+-- the input, where it is none
 abbrev pub inputWith : Side → Option Basic → Option Input
 inputWith u (some w) = some (inputOf u w)
 inputWith u none = none

@@ -18,7 +18,8 @@ kindOfFrame (frame s o b) = kind s o
 abbrev pub kindOfInput : Input → Kind
 kindOfInput i = under i (kind left union) (kind left difference) (kind right union) (kind right difference)
 
--- the state of the node below these frames, innermost first; none where it has no grandparent
+-- the state of the node below these frames, innermost first; none where it has no grandparent,
+-- or where the parent or the grandparent is an `I`
 abbrev pub stateBelow : List Kind → Option State
 stateBelow [] = none
 stateBelow (k ∷ []) = none
@@ -37,7 +38,7 @@ abbrev pub leftAbove : Move → Input → List Kind
 leftAbove (replaceT p) i = kindsAbove p ++ (kindOfInput i ∷ [])
 leftAbove (replaceTWithD p q s t) i = kindsAbove (under i p q s t)
 
--- "The new state is worked out from" these; none where there is no input
+-- "The new state is worked out from" these; after a step under an `I` there is no input and no next state
 abbrev pub stateAfter : State → Option Input → Option State
 stateAfter x (some i) = stateBelow (leftAbove (moveOf x) i)
 stateAfter x none = none

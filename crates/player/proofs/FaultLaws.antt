@@ -7,7 +7,7 @@ use Prim.Native.Nat.{ℕ, _*_, _%_, _≤_, _<_}
 use lib.Dec.{eqb, leb, ltb}
 use borrow.Author.Tests.{eq-eqb, ne-eqb, leb-false, ltb-false}
 use Rattle.player.specs.Limits.{registerCount, lastGroup, lastLamp, mostPairs, outside}
-use Rattle.player.specs.Instructions.{add, cut, loadKind, kindOf}
+use Rattle.player.specs.Instructions.{add, both, loadKind, kindOf}
 use Rattle.player.specs.Playing.{wrongPairCount, wrongPair}
 use Rattle.player.specs.InnerWords.{Executable}
 
@@ -24,14 +24,14 @@ module _ {kind target s t : ℕ} {registers : List (List ℕ)} (executable : Exe
   right-target = leb-false registerCount target (or-left _ _ (executable .right))
 
   -- what the test of the two last numbers comes to for a LOAD, and for the others
-  rest : cond (eqb kind loadKind) (outside 1 lastGroup s || not (eqb t 0)) (outside (kindOf add) (kindOf cut) kind || (leb registerCount s || leb registerCount t)) ≡ false
+  rest : cond (eqb kind loadKind) (outside 1 lastGroup s || not (eqb t 0)) (outside (kindOf add) (kindOf both) kind || (leb registerCount s || leb registerCount t)) ≡ false
   rest = or-right (leb registerCount target) _ (executable .right)
 
   pub right-group : kind ≡ loadKind → s ≤ lastGroup
   right-group e = ltb-false lastGroup s (or-right (ltb s 1) _ (or-left (outside 1 lastGroup s) (not (eqb t 0)) (rw (eq-eqb kind loadKind e) at rest)))
 
   sources : (kind ≡ loadKind → ⊥) → (leb registerCount s || leb registerCount t) ≡ false
-  sources n = or-right (outside (kindOf add) (kindOf cut) kind) _ (rw (ne-eqb kind loadKind n) at rest)
+  sources n = or-right (outside (kindOf add) (kindOf both) kind) _ (rw (ne-eqb kind loadKind n) at rest)
 
   pub right-s : (kind ≡ loadKind → ⊥) → s < registerCount
   right-s n = leb-false registerCount s (or-left _ _ (sources n))

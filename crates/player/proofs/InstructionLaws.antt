@@ -7,7 +7,7 @@ use native.Mathlib.Omega.{arith}
 use lib.Dec.{eqb}
 use lib.ListN.{length}
 use Rattle.player.specs.Limits.{registerCount, lastGroup, outside}
-use Rattle.player.specs.Instructions.{Rig, Registers, Operation, add, cut, Instruction, load, operate, kindOf, loadKind, operationWith, step, run, numbers, numbersOf, instructions}
+use Rattle.player.specs.Instructions.{Rig, Registers, Operation, add, cut, both, Instruction, load, operate, kindOf, loadKind, operationWith, step, run, numbers, numbersOf, instructions}
 
 -- An instruction that names registers 0 to 12 only and, if it is a LOAD, a group from 1 to the last one
 abbrev pub WellFormed : Instruction → Type 0
@@ -23,14 +23,17 @@ AllWellFormed (i ∷ is) = WellFormed i × AllWellFormed is
 pub kind-not-load : (o : Operation) → eqb (kindOf o) loadKind ≡ false
 kind-not-load add = refl
 kind-not-load cut = refl
+kind-not-load both = refl
 
-pub kind-inside : (o : Operation) → outside (kindOf add) (kindOf cut) (kindOf o) ≡ false
+pub kind-inside : (o : Operation) → outside (kindOf add) (kindOf both) (kindOf o) ≡ false
 kind-inside add = refl
 kind-inside cut = refl
+kind-inside both = refl
 
 kind-read : (o : Operation) → operationWith (kindOf o) ≡ o
 kind-read add = refl
 kind-read cut = refl
+kind-read both = refl
 
 -- ---- two lists, one behind the other
 pub run-append : (rig : Rig) (is js : List Instruction) (R : Registers) → run rig (is ++ js) R ≡ run rig js (run rig is R)

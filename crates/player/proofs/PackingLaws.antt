@@ -11,7 +11,7 @@ use lib.Pow.{pow-pos}
 use lib.Arith.{digits-div, digits-mod}
 use lib.Bits.{bitOr, bitAnd, or-step, and-step, or-zero-l, and-zero-l}
 use lib.ListN.{length, getD, set, take}
-use Rattle.player.specs.Instructions.{Lamps, add, cut, combined}
+use Rattle.player.specs.Instructions.{Lamps, add, cut, both, combined}
 use Rattle.player.specs.Bytes.{bit, pack, bytesFrom}
 use Rattle.player.proofs.ByteLaws.{bit-small, pack-small, pack-part}
 use Rattle.player.specs.InnerWords.{HoldsSet}
@@ -55,10 +55,13 @@ pack-complement f first (suc count) =
     rw (pow-suc 2 count)
     (omega (arith, pack-complement f (suc first) count, bit-not (f first), bit-small (f first), pack-small f (suc first) count, pow-pos count))
 
+pub pack-both : (f g : Lamps) (first count : ℕ) → bitAnd (pack f first count) (pack g first count) ≡ pack (combined both f g) first count
+pack-both = pack-by bitAnd min _&&_ and-step bit-and (and-zero-l 0)
+
 pub pack-difference : (f g : Lamps) (first count : ℕ) → bitAnd (pack f first count) ((2 ^ count - 1) - pack g first count) ≡ pack (combined cut f g) first count
 pack-difference f g first count =
     ap (λ (x : ℕ). bitAnd (pack f first count) x) (pack-complement g first count)
-    ∙ pack-by bitAnd min _&&_ and-step bit-and (and-zero-l 0) f (λ lamp. not (g lamp)) first count
+    ∙ pack-both f (λ lamp. not (g lamp)) first count
 
 -- f holds none of the `count` lamps from `first` on
 abbrev pub Off : Lamps → ℕ → ℕ → Type 0

@@ -16,20 +16,22 @@ Rig = ℕ → Lamps
 abbrev pub Registers : Type 0
 Registers = ℕ → Lamps
 
--- what two sets of lamps are combined by: "ADD (2) target, s, t .. CUT (3) target, s, t"
+-- what two sets of lamps are combined by: "ADD (2) target, s, t .. CUT (3) target, s, t"; request 6: "the player gains BOTH (kind 4)"
 pub data Operation : Type 0 where
   add : Operation
   cut : Operation
+  both : Operation
 
--- "LOAD (1) target, group, 0. ADD (2) target, s, t .. CUT (3) target, s, t"
+-- "LOAD (1) target, group, 0. ADD (2) target, s, t .. CUT (3) target, s, t"; request 6: "BOTH (kind 4)"
 pub data Instruction : Type 0 where
   load : (target group : ℕ) → Instruction
   operate : Operation → (target s t : ℕ) → Instruction
 
--- "union of registers s and t"; "s without t"
+-- "union of registers s and t"; "s without t"; request 6: "lamps in both"
 abbrev pub combined : Operation → Lamps → Lamps → Lamps
 combined add f g lamp = f lamp || g lamp
 combined cut f g lamp = f lamp && not (g lamp)
+combined both f g lamp = f lamp && g lamp
 
 -- Registers "empty at first".
 abbrev pub empty : Registers
@@ -57,12 +59,13 @@ litLamps rig is = run rig is empty 0
 abbrev pub loadKind : ℕ
 loadKind = 1
 
--- "ADD (2) .. CUT (3)"
+-- "ADD (2) .. CUT (3)"; request 6: "BOTH (kind 4)"
 abbrev pub kindOf : Operation → ℕ
 kindOf add = 2
 kindOf cut = 3
+kindOf both = 4
 
--- "LOAD (1) target, group, 0. ADD (2) target, s, t .. CUT (3) target, s, t"
+-- "LOAD (1) target, group, 0. ADD (2) target, s, t .. CUT (3) target, s, t"; request 6: "BOTH (kind 4)"
 abbrev pub numbers : Instruction → List ℕ
 numbers (load target group) = loadKind ∷ target ∷ group ∷ 0 ∷ []
 numbers (operate o target s t) = kindOf o ∷ target ∷ s ∷ t ∷ []
@@ -74,7 +77,7 @@ numbersOf (i ∷ is) = numbers i ++ numbersOf is
 
 -- The operation of a kind that is not LOAD's; fault 23 leaves no other kind.
 abbrev pub operationWith : ℕ → Operation
-operationWith kind = cond (eqb kind (kindOf add)) add cut
+operationWith kind = cond (eqb kind (kindOf add)) add (cond (eqb kind (kindOf cut)) cut both)
 
 -- The instruction that four numbers stand for; fault 23 leaves no other kind.
 abbrev pub instruction : ℕ → ℕ → ℕ → ℕ → Instruction

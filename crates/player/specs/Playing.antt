@@ -7,7 +7,7 @@ use lib.Dec.{eqb, leb, ltb}
 use lib.ListN.{length, drop}
 use Rattle.common.specs.Answer.{Answer, done, refusedWith, answerBy}
 use Rattle.player.specs.Limits.{registerCount, lastGroup, lastLamp, byteCount, mostInstructions, mostPairs, outside}
-use Rattle.player.specs.Instructions.{litLamps, add, cut, loadKind, kindOf, instructions}
+use Rattle.player.specs.Instructions.{litLamps, add, both, loadKind, kindOf, instructions}
 use Rattle.player.specs.Patches.{rig}
 use Rattle.player.specs.Bytes.{bytes}
 use Rattle.player.specs.declared.Played.{Played}
@@ -17,13 +17,13 @@ use Rattle.player.specs.declared.Played.the-variants.{Done, Refused}
 abbrev pub wrongLength : ℕ → Bool
 wrongLength n = eqb n 0 || (ltb (4 * mostInstructions) n || not (eqb (n % 4) 0))
 
--- 23: "a kind, register or group out of range, or LOAD's last number not 0"
+-- 23: "a kind, register or group out of range, or LOAD's last number not 0"; the kinds are 1 to 4, of which request 6 gave the last
 abbrev pub wrongInstruction : ℕ → ℕ → ℕ → ℕ → Bool
 wrongInstruction kind target s t =
     leb registerCount target
     || cond (eqb kind loadKind)
     (outside 1 lastGroup s || not (eqb t 0))
-    (outside (kindOf add) (kindOf cut) kind || (leb registerCount s || leb registerCount t))
+    (outside (kindOf add) (kindOf both) kind || (leb registerCount s || leb registerCount t))
 
 -- some instruction of the code is such a one; its numbers go four by four
 unfoldable pub wrongCode : List ℕ → Bool

@@ -29,12 +29,14 @@ const INSTRUCTIONS: usize = 8191;
 const PAIRS: usize = 4096;
 
 // 01's kinds of instruction: "LOAD (1) target, group, 0. ADD (2) target, s, t: union of registers s and t. CUT (3) target,
-// s, t: s without t."
+// s, t: s without t." Request 6's: "the player gains BOTH (kind 4)", the lamps in both.
 pub const LOAD: u16 = 1;
 
 pub const ADD: u16 = 2;
 
 pub const CUT: u16 = 3;
+
+pub const BOTH: u16 = 4;
 
 // The lamps of a word, and the words of a set.
 const WIDTH: usize = 64;
@@ -80,14 +82,20 @@ fn numbers_at(code: &[u16], at: usize) -> Numbers
     }
 }
 
-// Of 64 lamps, the union of two sets for ADD, the first without the second for CUT.
+// Of 64 lamps, the union of two sets for ADD, the first without the second for CUT, the lamps in both for BOTH.
 fn combine_words(kind: u16, x: u64, y: u64) -> u64
     ensures { λ r. ⌜ ((f g : Lamps) (first : ℕ) → x ≡ word f first → y ≡ word g first → r ≡ word (combined (operationWith kind) f g) first) ⌝ }
 {
-    if kind == ADD { x | y } else { x & !y }
+    if kind == ADD {
+        return x | y;
+    }
+    if kind == CUT {
+        return x & !y;
+    }
+    x & y
 }
 
-// The union of two sets for ADD, the first without the second for CUT.
+// The union of two sets for ADD, the first without the second for CUT, the lamps in both for BOTH.
 fn combine(kind: u16, x: [u64; WORDS], y: [u64; WORDS]) -> [u64; WORDS]
     ensures { λ r. ⌜ ((f g : Lamps) → HoldsSet x f → HoldsSet y g → HoldsSet r (combined (operationWith kind) f g)) ⌝ }
 {
@@ -225,7 +233,7 @@ fn wrong_instruction(i: Numbers) -> bool
         (REGISTERS <= i.target) | (outside(1, GROUPS, i.s) | (i.t != 0))
     } else {
         (REGISTERS <= i.target)
-            | (((i.kind < ADD) | (CUT < i.kind)) | ((REGISTERS <= i.s) | (REGISTERS <= i.t)))
+            | (((i.kind < ADD) | (BOTH < i.kind)) | ((REGISTERS <= i.s) | (REGISTERS <= i.t)))
     }
 }
 

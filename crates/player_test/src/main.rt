@@ -1,6 +1,7 @@
-// Plays the cases that 01 names in "The player". Before each, every byte holds 165. A line has the case, the number answered,
-// how many bytes still hold 165, and each other byte that is not 0, as position=value in hexadecimal.
+// Plays the cases that 01 names in "The player", and request 6's BOTH. Before each, every byte holds 165. A line has the case, the
+// number answered, how many bytes still hold 165, and each other byte that is not 0, as position=value in hexadecimal.
 use player::ADD;
+use player::BOTH;
 use player::CUT;
 use player::LOAD;
 use player::Played;
@@ -94,10 +95,11 @@ fn most_instructions() {
 // Fault 23.
 fn registers() {
     instruction(b"kind 0", 0, 0, 1, 2);
-    instruction(b"kind 4", 4, 0, 1, 2);
+    instruction(b"kind 5", 5, 0, 1, 2);
     instruction(b"target 13", LOAD, 13, 7, 0);
     instruction(b"first operand 13", ADD, 0, 13, 0);
     instruction(b"second operand 13", CUT, 0, 0, 13);
+    instruction(b"second operand 13 of BOTH", BOTH, 0, 0, 13);
     instruction(b"registers 12", CUT, 12, 12, 12);
 }
 
@@ -110,7 +112,7 @@ fn loads() {
     instruction(b"LOAD with a last number not 0", LOAD, 0, 7, 1);
     case(
         b"a fault in the second instruction",
-        &[LOAD, 0, 7, 0, 4, 0, 0, 0],
+        &[LOAD, 0, 7, 0, 5, 0, 0, 0],
         &[7, 1],
     );
 }
@@ -137,13 +139,13 @@ fn pairs() {
 // Two faults at once: the first listed is the one given.
 fn faults() {
     show(b"21 and 22", &[], &[7, 1], &mut [BEFORE; 63]);
-    case(b"22 and 23", &[4, 0, 0, 0, 1], &[7, 1]);
+    case(b"22 and 23", &[5, 0, 0, 0, 1], &[7, 1]);
     case(b"22 and 24", &[], &[7]);
 }
 
 fn later_faults() {
-    case(b"23 and 24", &[4, 0, 0, 0], &[7]);
-    case(b"23 and 25", &[4, 0, 0, 0], &[7, 513]);
+    case(b"23 and 24", &[5, 0, 0, 0], &[7]);
+    case(b"23 and 25", &[5, 0, 0, 0], &[7, 513]);
     case(b"24 and 25", &[LOAD, 0, 7, 0], &[7, 513, 7]);
 }
 
@@ -159,7 +161,7 @@ fn lit() {
     case(b"an empty patch", &[LOAD, 0, 7, 0], &[]);
 }
 
-// Lamps of ADD and CUT.
+// Lamps of ADD, CUT and BOTH.
 fn operations() {
     case(
         b"ADD of 1 2 and 2 3",
@@ -174,6 +176,11 @@ fn operations() {
     case(
         b"CUT of 2 3 and 1 2",
         &[LOAD, 0, 7, 0, LOAD, 1, 8, 0, CUT, 0, 1, 0],
+        &[7, 1, 7, 2, 8, 2, 8, 3],
+    );
+    case(
+        b"BOTH of 1 2 and 2 3",
+        &[LOAD, 0, 7, 0, LOAD, 1, 8, 0, BOTH, 0, 0, 1],
         &[7, 1, 7, 2, 8, 2, 8, 3],
     );
 }

@@ -9,7 +9,7 @@ use lib.ListN.{getD}
 use Rattle.tree.specs.Tree.{isIn}
 use Rattle.text.specs.Line.{Row}
 use Rattle.text.proofs.LineLaws.{Plain, AllPlain, lines-unique}
-use Rattle.player.specs.Instructions.{Operation, add, cut, Instruction, load, operate}
+use Rattle.player.specs.Instructions.{Operation, add, cut, both, Instruction, load, operate}
 use Rattle.printing.specs.Key.{LiftAnswer, Held, unmarked, heldRun, cannot, Key, refusal, answers, liftRows, heldRows, wordOf, instructionRow, instructionRows, rowsOf, text}
 
 -- ---- no word of a key has a tab or an LF
@@ -17,6 +17,7 @@ word-plain : (o : Operation) → Plain (wordOf o)
 unfolding isIn
 word-plain add = record { noTab = refl; noLineFeed = refl }
 word-plain cut = record { noTab = refl; noLineFeed = refl }
+word-plain both = record { noTab = refl; noLineFeed = refl }
 
 instruction-plain : (is : List Instruction) → AllPlain (instructionRows is)
 unfolding AllPlain instructionRows isIn
@@ -47,11 +48,11 @@ letter r i = getD (r .word) i 0
 abbrev field : Row → ℕ → ℕ
 field r i = getD (r .numbers) i 0
 
--- LOAD by its O, ADD by its A
+-- LOAD by its L, ADD by its A, CUT by its C
 abbrev instructionOf : Row → Instruction
 instructionOf r =
-    cond (eqb (letter r 1) 79) (load (field r 0) (field r 1))
-    (operate (cond (eqb (letter r 0) 65) add cut) (field r 0) (field r 1) (field r 2))
+    cond (eqb (letter r 0) 76) (load (field r 0) (field r 1))
+    (operate (cond (eqb (letter r 0) 65) add (cond (eqb (letter r 0) 67) cut both)) (field r 0) (field r 1) (field r 2))
 
 unfoldable instructionsOf : List Row → List Instruction
 instructionsOf [] = []
@@ -79,6 +80,7 @@ instruction-back : (i : Instruction) → instructionOf (instructionRow i) ≡ i
 instruction-back (load a b) = refl
 instruction-back (operate add a b c) = refl
 instruction-back (operate cut a b c) = refl
+instruction-back (operate both a b c) = refl
 
 instructions-back : (is : List Instruction) → instructionsOf (instructionRows is) ≡ is
 unfolding instructionRows instructionsOf
@@ -91,6 +93,7 @@ unmarked-back [] = refl
 unmarked-back (load a b ∷ is) = rw (instructions-back is)
 unmarked-back (operate add a b c ∷ is) = rw (instructions-back is)
 unmarked-back (operate cut a b c ∷ is) = rw (instructions-back is)
+unmarked-back (operate both a b c ∷ is) = rw (instructions-back is)
 
 lifts-back : (ls : List LiftAnswer) (h : Held) (is : List Instruction) → decode (liftRows ls ++ (heldRows h ++ instructionRows is)) ≡ answers ls h is
 unfolding liftRows decode

@@ -13,10 +13,10 @@ use Rattle.text.specs.Line.{line, lines}
 use Rattle.text.specs.Inner.{field, fieldsAfter}
 use Rattle.text.proofs.DecimalLaws.{digits-length}
 use Rattle.text.proofs.LineLaws.{line-length}
-use Rattle.player.specs.Instructions.{Operation, add, cut, Instruction, load, operate, loadKind, kindOf, instruction, instructions}
+use Rattle.player.specs.Instructions.{Operation, add, cut, both, Instruction, load, operate, loadKind, kindOf, instruction, instructions}
 use Rattle.player.proofs.InstructionLaws.{WellFormed, AllWellFormed}
 use Rattle.common.proofs.ListLaws.{two-at}
-use Rattle.printing.specs.Key.{NO, LIFT, HELD, LOAD, ADD, CUT, wordOf, instructionRow, instructionRows}
+use Rattle.printing.specs.Key.{NO, LIFT, HELD, LOAD, ADD, CUT, BOTH, wordOf, instructionRow, instructionRows}
 use Rattle.printing.specs.Inner.{rowText}
 
 -- ---- a loop that writes a text piece by piece: so far the front of `whole` is written, and `rest` is what is left of it
@@ -52,8 +52,12 @@ module _ (kind target s t : ℕ) where
   pub add-text : kind ≡ kindOf add → rowText (instructionRow (instruction kind target s t)) ≡ line ADD (target ∷ s ∷ t ∷ [])
   add-text e = rw e
 
-  pub cut-text : (kind ≡ loadKind → ⊥) → (kind ≡ kindOf add → ⊥) → rowText (instructionRow (instruction kind target s t)) ≡ line CUT (target ∷ s ∷ t ∷ [])
-  cut-text n m = rw (ne-eqb kind loadKind n, ne-eqb kind (kindOf add) m)
+  pub cut-text : kind ≡ kindOf cut → rowText (instructionRow (instruction kind target s t)) ≡ line CUT (target ∷ s ∷ t ∷ [])
+  cut-text e = rw e
+
+  pub both-text : (kind ≡ loadKind → ⊥) → (kind ≡ kindOf add → ⊥) → (kind ≡ kindOf cut → ⊥)
+      → rowText (instructionRow (instruction kind target s t)) ≡ line BOTH (target ∷ s ∷ t ∷ [])
+  both-text l a c = rw (ne-eqb kind loadKind l, ne-eqb kind (kindOf add) a, ne-eqb kind (kindOf cut) c)
 
 -- ---- one instruction more of a code
 abbrev pub codeText : List ℕ → List ℕ
@@ -92,11 +96,12 @@ unfolding fieldsAfter
 line-three word a b c =
     omega (arith, line-length word (a ∷ b ∷ c ∷ []), length-append (field a) (field b ++ (field c ++ [])), length-append (field b) (field c ++ []), length-append (field c) [])
 
--- an instruction that the player takes: at most 14 bytes
 word-most : (o : Operation) → length (wordOf o) ≤ 4
 word-most add = omega arith
 word-most cut = omega arith
+word-most both = omega arith
 
+-- an instruction that the player takes: at most 14 bytes
 pub instruction-most : (i : Instruction) → WellFormed i → length (rowText (instructionRow i)) ≤ 14
 instruction-most (load target group) w =
     omega (arith, line-two LOAD target group, digits-length 1 target (omega (arith, w .0)), digits-length 4 group (omega (arith, w .2)))

@@ -2,7 +2,7 @@
 use mathlib.Core.List.{List, [], _∷_, _++_}
 use Prim.Native.Nat.{ℕ}
 use Rattle.text.specs.Line.{Row, line, lines}
-use Rattle.player.specs.Instructions.{Operation, add, cut, Instruction, load, operate}
+use Rattle.player.specs.Instructions.{Operation, add, cut, both, Instruction, load, operate}
 
 -- "per lift `LIFT` number position looks"
 pub record LiftAnswer : Type 0 where
@@ -40,6 +40,9 @@ ADD = 65 ∷ 68 ∷ 68 ∷ []
 abbrev pub CUT : List ℕ
 CUT = 67 ∷ 85 ∷ 84 ∷ []
 
+abbrev pub BOTH : List ℕ
+BOTH = 66 ∷ 79 ∷ 84 ∷ 72 ∷ []
+
 -- a line of a word and numbers
 abbrev pub row : List ℕ → List ℕ → Row
 row word numbers = record { word = word; numbers = numbers }
@@ -59,12 +62,13 @@ heldRows unmarked = []
 heldRows (heldRun first count) = row HELD (0 ∷ first ∷ count ∷ []) ∷ []
 heldRows cannot = row HELD (19 ∷ []) ∷ []
 
--- "a code line is .. `ADD` or `CUT`"
+-- "a code line is .. `ADD` or `CUT`"; request 6: "the player gains BOTH (kind 4)"
 abbrev pub wordOf : Operation → List ℕ
 wordOf add = ADD
 wordOf cut = CUT
+wordOf both = BOTH
 
--- "a code line is `LOAD`, `ADD` or `CUT` and its numbers, LOAD's last 0 left out"
+-- "a code line is `LOAD`, `ADD` or `CUT` and its numbers, LOAD's last 0 left out"; or `BOTH` and its numbers, by request 6
 abbrev pub instructionRow : Instruction → Row
 instructionRow (load target group) = row LOAD (target ∷ group ∷ [])
 instructionRow (operate o target s t) = row (wordOf o) (target ∷ s ∷ t ∷ [])

@@ -21,7 +21,10 @@ fn put_instruction(kind: u16, target: u16, s: u16, t: u16, out: &mut [u8], at: u
     if kind == player::ADD {
         return text::put_line(b"ADD", &[a, b, c], out, at);
     }
-    text::put_line(b"CUT", &[a, b, c], out, at)
+    if kind == player::CUT {
+        return text::put_line(b"CUT", &[a, b, c], out, at);
+    }
+    text::put_line(b"BOTH", &[a, b, c], out, at)
 }
 
 // Writes the lines of a code's instructions, four numbers each.

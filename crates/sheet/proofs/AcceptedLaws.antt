@@ -49,6 +49,44 @@ pub record Accepted (rules : Rules) (sheet : List ℕ) (st : ReadingState) : Typ
 pub no-outcome : {st : ReadingState} {n line : ℕ} {X : Type 0} → refused n line ≡ accepted st → X
 no-outcome e = absurd (let z : _≡_ {A = ℕ} 0 1 = cc in omega arith)
 
+-- ---- a line of an accepted file has no fault, and what comes after it is accepted
+module _ (rules : Rules) (end : ReadingState) where
+  pub record PassedLine (st : ReadingState) (n at : ℕ) (k : Line) (ls : Parts) : Type 0 where
+    pub faultless : faultOf rules st k ≡ 0
+    pub later : readLines rules (stateAfter st k at) (n + 1) at ls ≡ accepted end
+
+  pub passed-line : (st : ReadingState) (n at : ℕ) (l : List ℕ) (ls : Parts) → readLines rules st n at (part l ls) ≡ accepted end → PassedLine st n (at + length l + 1) (lineOf rules l) ls
+  unfolding readLines
+  passed-line st n at l ls e = go (eqb (faultOf rules st k) 0) refl e
+    where
+      k : Line
+      k = lineOf rules l
+
+      go : (b : Bool) → eqb (faultOf rules st k) 0 ≡ b
+          → cond b (readLines rules (stateAfter st k (at + length l + 1)) (n + 1) (at + length l + 1) ls) (refused (faultOf rules st k) (n + 1)) ≡ accepted end
+          → PassedLine st n (at + length l + 1) k ls
+      go true q e = record { faultless = eqb-true (faultOf rules st k) 0 q; later = e }
+      go false q e = no-outcome e
+
+  -- nothing comes after the last line
+  pub passed-last : (st : ReadingState) (n at : ℕ) (l : List ℕ) → readLines rules st n at (last l) ≡ accepted end → st ≡ end
+  unfolding readLines
+  passed-last st n at l e = go (eqb (length l) 0) (eqb (st .phase) ended) e
+    where
+      go : (a b : Bool) → cond a (cond b (accepted st) (refused 10 (n + 1))) (refused 2 (n + 1)) ≡ accepted end → st ≡ end
+      go true true e = cc
+      go true false e = no-outcome e
+      go false b e = no-outcome e
+
+  -- the first line stands at byte 0
+  pub passed-start : (s : List ℕ) → readWith rules s ≡ accepted end → readLines rules nothingRead 0 0 (split lineFeed s) ≡ accepted end
+  unfolding readWith
+  passed-start s e = go (ltb mostBytes (length s)) e
+    where
+      go : (b : Bool) → cond b (refused 1 0) (readLines rules nothingRead 0 0 (split lineFeed s)) ≡ accepted end → readLines rules nothingRead 0 0 (split lineFeed s) ≡ accepted end
+      go true e = no-outcome e
+      go false e = e
+
 -- ---- the lifts read so far: the byte after them is the next line's until a mark or the end comes
 record Path (rules : Rules) (s : List ℕ) (st : ReadingState) (at : ℕ) : Type 0 where
   to : ℕ
@@ -151,15 +189,10 @@ module _ (rules : Rules) (s : List ℕ) (m : rules .nodes ≤ mostNodes) (g : ru
       go false q ih = at-end st n at S p (sym (lines-end rules st n at s (ltb-false at (length s) q)) ∙ e)
 
   pub accepted-within : readWith rules s ≡ accepted end → Accepted rules s end
-  unfolding readWith
-  accepted-within e = go (ltb mostBytes (length s)) e
+  accepted-within e = accepted-lines (length s) nothingRead 0 0 (omega arith) (sound-nothing-read rules) start (passed-start rules end s e)
     where
       start : Path rules s nothingRead 0
       start = record { to = 0; lifts = lifts-none rules s 0; here = λ _. refl; none-yet = λ _. refl }
-
-      go : (b : Bool) → cond b (refused 1 0) (readLines rules nothingRead 0 0 (split lineFeed s)) ≡ accepted end → Accepted rules s end
-      go true e = no-outcome e
-      go false e = accepted-lines (length s) nothingRead 0 0 (omega arith) (sound-nothing-read rules) start e
 
 -- what an accepted sheet has, and an accepted drawing
 pub accepted-sheet : (s : List ℕ) (st : ReadingState) → reading s ≡ accepted st → Accepted sheetRules s st

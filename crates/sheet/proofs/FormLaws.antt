@@ -1,17 +1,16 @@
 -- The form of a line, by where its tabs stand, the ranges of its numbers, and one line by two rules.
 use mathlib.Core.Path.{_≡_, refl, sym, ap, _∙_}
 use mathlib.Core.Bool.{Bool, true, false, cond, _&&_, true≢false}
-use mathlib.Core.Logic.{_⊎_, inl, inr}
 use mathlib.Core.List.{List, [], _∷_}
 use mathlib.Core.Option.{Option, some, none}
 use Prim.Native.Nat.{ℕ, _+_, _≤_, _<_}
 use native.Mathlib.Nat.{not-suc-le-zero}
 use native.Mathlib.Omega.{arith}
-use borrow.Author.Tests.{eq-eqb, ne-eqb, le-leb, lt-leb, leb-true, leb-false, ltb-true, ltb-false}
+use borrow.Author.Tests.{eq-eqb, ne-eqb, eqb-true, le-leb, lt-leb, leb-true, leb-false, ltb-true, ltb-false}
 use lib.Dec.{eqb, leb, ltb}
 use lib.ListN.{length, getD, take, drop}
 use lib.Seq.{length-take-le}
-use Rattle.tree.specs.Tree.{union, difference, isUpTo, isGroup, mostGroup, isIn}
+use Rattle.tree.specs.Tree.{Operator as TreeOperator, union, difference, intersection, sign, isUpTo, mostGroup, isIn}
 use Rattle.text.specs.Decimal.{decimal}
 use Rattle.text.specs.Inner.{noNumber, capped, ahead}
 use Rattle.text.specs.Parts.{Parts, last, part, split, join}
@@ -22,7 +21,7 @@ use Rattle.sheet.specs.Form.{letterG, letterK, letterL, letterE, letterF
 use Rattle.sheet.specs.Rules.{Rules, sheetRules}
 use Rattle.sheet.specs.InnerHolding.{InRange}
 use Rattle.sheet.specs.declared.Line.{Line}
-use Rattle.sheet.specs.declared.Line.the-variants.{Group, Lift, Mark, End, Bad}
+use Rattle.sheet.specs.declared.Line.the-variants.{Group, Operator, Lift, Mark, End, Bad}
 
 -- ---- the numbers 1 to a last one
 up-to-more : (few more n : ℕ) → few ≤ more → isUpTo few n ≡ true → isUpTo more n ≡ true
@@ -99,9 +98,9 @@ whole [] e = absurd (omega arith)
 whole (b ∷ []) e = refl
 whole (b ∷ (c ∷ l)) e = absurd (omega arith)
 
-pub line-bare : (rules : Rules) (l : List ℕ) → ahead tab l ≡ 1 → length l ≡ 1 → lineOf rules l ≡ bare (getD l 0 0)
+pub line-bare : (rules : Rules) (l : List ℕ) → ahead tab l ≡ 1 → length l ≡ 1 → lineOf rules l ≡ bare rules (getD l 0 0)
 unfolding lineOf formOf
-line-bare rules l h e = rw (split-all tab l (h ∙ sym e)) (ap (λ (f : List ℕ). bare (letterOf f)) (whole l e))
+line-bare rules l h e = rw (split-all tab l (h ∙ sym e)) (ap (λ (f : List ℕ). bare rules (letterOf f)) (whole l e))
 
 pub line-fields : (rules : Rules) (l : List ℕ) → ahead tab l ≡ 1 → 1 < length l → lineOf rules l ≡ formOf rules (part (getD l 0 0 ∷ []) (split tab (drop 2 l)))
 unfolding lineOf
@@ -189,81 +188,104 @@ pub either : (P : Line → Type 0) (b : Bool) (x y : Line) → (b ≡ true → P
 either P true x y p q = p refl
 either P false x y p q = q
 
--- ---- the numbers of every line are in their ranges, where the rules have no group that trees do not have
-bare-range : (kind : ℕ) → InRange (bare kind)
-bare-range kind =
-    either InRange (eqb kind (letterFor union)) _ _ (λ e. (union, refl))
-    (either InRange (eqb kind (letterFor difference)) _ _ (λ e. (difference, refl)) (either InRange (eqb kind letterE) End Bad (λ e. tt) tt))
+-- ---- what holds of each line that the rules know, and of a bad one, holds of every line
+pub record OfEach (rules : Rules) (P : Line → Type 0) : Type 0 where
+  pub group : (n : ℕ) → isUpTo (rules .lastGroup) n ≡ true → P (Group n)
+  pub operator : (o : TreeOperator) → (sign o ≡ sign intersection → rules .intersections ≡ true) → P (Operator (sign o))
+  pub lift : (p n : ℕ) → isPosition p ≡ true → isLevels n ≡ true → P (Lift p n)
+  pub mark : (n : ℕ) → isUpTo (rules .lastGroup) n ≡ true → P (Mark n)
+  pub end : P End
+  pub bad : P Bad
 
-levels-range : (p : ℕ) → p ≤ mostPosition → (o : Option ℕ) → InRange (ranged isLevels (λ n. Lift p n) o)
-levels-range p h none = tt
-levels-range p h (some n) =
-    either InRange (isLevels n) (Lift p n) Bad
-    (λ e. let z = and-both (leb 1 n) (leb n mostLevels) e in record { position-most = h; levels-least = leb-true 1 n (z .0); levels-most = leb-true n mostLevels (z .1) })
-    tt
+module _ (rules : Rules) (P : Line → Type 0) (E : OfEach rules P) where
+  each-bare : (kind : ℕ) → P (bare rules kind)
+  each-bare kind =
+      either P (eqb kind (letterFor union)) _ _ (λ e. E .operator union (λ z. absurd (omega arith)))
+      (either P (eqb kind (letterFor difference)) _ _ (λ e. E .operator difference (λ z. absurd (omega arith)))
+      (either P (eqb kind (letterFor intersection) && rules .intersections) _ _ (λ e. E .operator intersection (λ z. and-both (eqb kind (letterFor intersection)) (rules .intersections) e .1))
+      (either P (eqb kind letterE) _ _ (λ e. E .end) (E .bad))))
 
-lift-range : (o u : Option ℕ) → InRange (ranged isPosition (λ p. ranged isLevels (λ n. Lift p n) u) o)
-lift-range none u = tt
-lift-range (some p) u = either InRange (isPosition p) (ranged isLevels (λ n. Lift p n) u) Bad (λ e. levels-range p (leb-true p mostPosition e) u) tt
+  each-ranged : (passes : ℕ → Bool) (form : ℕ → Line) → ((n : ℕ) → passes n ≡ true → P (form n)) → (o : Option ℕ) → P (ranged passes form o)
+  each-ranged passes form f none = E .bad
+  each-ranged passes form f (some n) = either P (passes n) _ _ (f n) (E .bad)
 
-module _ (rules : Rules) (most : rules .lastGroup ≤ mostGroup) where
-  group-range : (form : ℕ → Line) → ((n : ℕ) → isGroup n ≡ true → InRange (form n)) → (o : Option ℕ) → InRange (ranged (isUpTo (rules .lastGroup)) form o)
-  group-range form f none = tt
-  group-range form f (some n) = either InRange (isUpTo (rules .lastGroup) n) (form n) Bad (λ e. f n (up-to-more (rules .lastGroup) mostGroup n most e)) tt
-
-  form-range : (ps : Parts) → InRange (formOf rules ps)
+  each-form : (ps : Parts) → P (formOf rules ps)
   unfolding formOf
-  form-range (last kind) = bare-range (letterOf kind)
-  form-range (part kind (last f)) =
-      either InRange (eqb (letterOf kind) letterG) _ _ (λ e. group-range Group (λ n g. g) (decimal f))
-      (either InRange (eqb (letterOf kind) letterK) _ _ (λ e. group-range Mark (λ n g. g) (decimal f)) tt)
-  form-range (part kind (part f (last g))) = either InRange (eqb (letterOf kind) letterL) _ _ (λ e. lift-range (decimal f) (decimal g)) tt
-  form-range (part kind (part f (part g fs))) = tt
+  each-form (last kind) = each-bare (letterOf kind)
+  each-form (part kind (last f)) =
+      either P (eqb (letterOf kind) letterG) _ _ (λ e. each-ranged _ Group (E .group) (decimal f))
+      (either P (eqb (letterOf kind) letterK) _ _ (λ e. each-ranged _ Mark (E .mark) (decimal f)) (E .bad))
+  each-form (part kind (part f (last g))) =
+      either P (eqb (letterOf kind) letterL) _ _ (λ e. each-ranged isPosition _ (λ p h. each-ranged isLevels (λ n. Lift p n) (λ n k. E .lift p n h k) (decimal g)) (decimal f)) (E .bad)
+  each-form (part kind (part f (part g fs))) = E .bad
 
-  pub line-range : (l : List ℕ) → InRange (lineOf rules l)
+  pub each-line : (l : List ℕ) → P (lineOf rules l)
   unfolding lineOf
-  line-range l = form-range (split tab l)
+  each-line l = each-form (split tab l)
+
+-- so the numbers of every line are in their ranges, where the rules have no group that trees do not have
+pub line-range : (rules : Rules) → rules .lastGroup ≤ mostGroup → (l : List ℕ) → InRange (lineOf rules l)
+line-range rules most = each-line rules InRange (record {
+  group = λ n e. up-to-more (rules .lastGroup) mostGroup n most e;
+  operator = λ o _. (o, refl);
+  lift = λ p n e f. let z = and-both (leb 1 n) (leb n mostLevels) f in record { position-most = leb-true p mostPosition e; levels-least = leb-true 1 n (z .0); levels-most = leb-true n mostLevels (z .1) };
+  mark = λ n e. up-to-more (rules .lastGroup) mostGroup n most e;
+  end = tt;
+  bad = tt;
+})
 
 -- ---- one line by two rules
-module _ (few more : Rules) (less : few .lastGroup ≤ more .lastGroup) where
-  -- what they make of it: the same, or the stricter ones know no such group
-  abbrev pub Forms : Line → Line → Type 0
-  Forms k l = (k ≡ l) ⊎ ((few .lastGroup < more .lastGroup) × (k ≡ Bad))
+-- what they make of it: the same, or the stricter ones know no such group or no `I`
+pub data Forms (few more : Rules) (k l : Line) : Type 0 where
+  same-form : k ≡ l → Forms few more k l
+  unknown-group : few .lastGroup < more .lastGroup → k ≡ Bad → Forms few more k l
+  unknown-operator : few .intersections ≡ false → more .intersections ≡ true → k ≡ Bad → Forms few more k l
 
-  forms-ranged : (form : ℕ → Line) (o : Option ℕ) → Forms (ranged (isUpTo (few .lastGroup)) form o) (ranged (isUpTo (more .lastGroup)) form o)
-  forms-ranged form none = inl refl
+module _ (few more : Rules) (less : few .lastGroup ≤ more .lastGroup) (may : few .intersections ≡ true → more .intersections ≡ true) where
+  forms-either : (b : Bool) {k l m n : Line} → Forms few more k l → Forms few more m n → Forms few more (cond b k m) (cond b l n)
+  forms-either true p q = p
+  forms-either false p q = q
+
+  forms-bare : (kind : ℕ) → Forms few more (bare few kind) (bare more kind)
+  forms-bare kind =
+      forms-either (eqb kind (letterFor union)) (same-form refl)
+      (forms-either (eqb kind (letterFor difference)) (same-form refl) (go (eqb kind (letterFor intersection)) refl (few .intersections) refl (more .intersections) refl))
+    where
+      go : (i : Bool) → eqb kind (letterFor intersection) ≡ i → (b : Bool) → few .intersections ≡ b → (c : Bool) → more .intersections ≡ c
+          → Forms few more (cond (i && b) (Operator (sign intersection)) (cond (eqb kind letterE) End Bad)) (cond (i && c) (Operator (sign intersection)) (cond (eqb kind letterE) End Bad))
+      go false e b p c q = same-form refl
+      go true e true p true q = same-form refl
+      go true e true p false q = absurd (true≢false (sym (may p) ∙ q))
+      go true e false p true q = unknown-operator p q (rw (eqb-true kind (letterFor intersection) e))
+      go true e false p false q = same-form refl
+
+  forms-ranged : (form : ℕ → Line) (o : Option ℕ) → Forms few more (ranged (isUpTo (few .lastGroup)) form o) (ranged (isUpTo (more .lastGroup)) form o)
+  forms-ranged form none = same-form refl
   forms-ranged form (some n) = go (isUpTo (few .lastGroup) n) refl (isUpTo (more .lastGroup) n) refl
     where
-      go : (b : Bool) → isUpTo (few .lastGroup) n ≡ b → (c : Bool) → isUpTo (more .lastGroup) n ≡ c → Forms (cond b (form n) Bad) (cond c (form n) Bad)
-      go true p true q = inl refl
+      go : (b : Bool) → isUpTo (few .lastGroup) n ≡ b → (c : Bool) → isUpTo (more .lastGroup) n ≡ c → Forms few more (cond b (form n) Bad) (cond c (form n) Bad)
+      go true p true q = same-form refl
       go true p false q = absurd (true≢false (sym (up-to-more (few .lastGroup) (more .lastGroup) n less p) ∙ q))
-      go false p true q = inr (up-to-between (few .lastGroup) (more .lastGroup) n p q, refl)
-      go false p false q = inl refl
+      go false p true q = unknown-group (up-to-between (few .lastGroup) (more .lastGroup) n p q) refl
+      go false p false q = same-form refl
 
-  forms-fields : (ps : Parts) → Forms (formOf few ps) (formOf more ps)
+  forms-fields : (ps : Parts) → Forms few more (formOf few ps) (formOf more ps)
   unfolding formOf
-  forms-fields (last kind) = inl refl
-  forms-fields (part kind (last f)) = go (eqb (letterOf kind) letterG) (eqb (letterOf kind) letterK)
-    where
-      o : Option ℕ
-      o = decimal f
+  forms-fields (last kind) = forms-bare (letterOf kind)
+  forms-fields (part kind (last f)) =
+      forms-either (eqb (letterOf kind) letterG) (forms-ranged Group (decimal f)) (forms-either (eqb (letterOf kind) letterK) (forms-ranged Mark (decimal f)) (same-form refl))
+  forms-fields (part kind (part f (last g))) = same-form refl
+  forms-fields (part kind (part f (part g fs))) = same-form refl
 
-      go : (g k : Bool) → Forms (cond g (ranged (isUpTo (few .lastGroup)) Group o) (cond k (ranged (isUpTo (few .lastGroup)) Mark o) Bad))
-          (cond g (ranged (isUpTo (more .lastGroup)) Group o) (cond k (ranged (isUpTo (more .lastGroup)) Mark o) Bad))
-      go true k = forms-ranged Group o
-      go false true = forms-ranged Mark o
-      go false false = inl refl
-  forms-fields (part kind (part f (last g))) = inl refl
-  forms-fields (part kind (part f (part g fs))) = inl refl
-
-  pub forms : (l : List ℕ) → Forms (lineOf few l) (lineOf more l)
+  pub forms : (l : List ℕ) → Forms few more (lineOf few l) (lineOf more l)
   unfolding lineOf
   forms l = forms-fields (split tab l)
 
--- a line's form depends on the last group only
-pub forms-alike : (r s : Rules) → r .lastGroup ≡ s .lastGroup → (l : List ℕ) → lineOf r l ≡ lineOf s l
-forms-alike r s e l = go (forms r s (omega arith) l)
+-- a line's form depends on the last group and on whether `I` may stand only
+pub forms-alike : (r s : Rules) → r .lastGroup ≡ s .lastGroup → r .intersections ≡ s .intersections → (l : List ℕ) → lineOf r l ≡ lineOf s l
+forms-alike r s e f l = go (forms r s (omega arith) (λ z. sym f ∙ z) l)
   where
-    go : Forms r s (omega arith) (lineOf r l) (lineOf s l) → lineOf r l ≡ lineOf s l
-    go (inl q) = q
-    go (inr q) = absurd (omega (arith, q .0))
+    go : Forms r s (lineOf r l) (lineOf s l) → lineOf r l ≡ lineOf s l
+    go (same-form q) = q
+    go (unknown-group h q) = absurd (omega (arith, h))
+    go (unknown-operator a b q) = absurd (true≢false (sym b ∙ sym f ∙ a))

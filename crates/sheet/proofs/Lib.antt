@@ -10,3 +10,4 @@ pub mod AcceptedLaws
 pub mod RulesLaws
 pub mod LiftLineLaws
 pub mod TypedLaws
+pub mod WithoutLaws

@@ -8,7 +8,7 @@ use native.Mathlib.Omega.{arith}
 use borrow.Author.Tests.{eqb-true, ltb-true}
 use lib.Dec.{eqb, ltb}
 use lib.ListN.{length, drop, length-append, length-drop}
-use Rattle.tree.specs.Tree.{union, difference}
+use Rattle.tree.specs.Tree.{union, difference, intersection}
 use Rattle.text.specs.Decimal.{decimal, value, leadingZero, allDigits}
 use Rattle.text.specs.Parts.{Parts, last, part, split, join}
 use Rattle.text.specs.Line.{tab, lineFeed}
@@ -48,9 +48,10 @@ no-lift l p n e f = absurd (true≢false (sym (ap isLift f) ∙ e))
 other : (b : Bool) (x y : Line) → isLift x ≡ false → isLift y ≡ false → isLift (cond b x y) ≡ false
 other b x y p q = either (λ l. isLift l ≡ false) b x y (λ _. p) q
 
-bare-other : (k : ℕ) → isLift (bare k) ≡ false
-bare-other k =
-    other (eqb k (letterFor union)) _ _ refl (other (eqb k (letterFor difference)) _ _ refl (other (eqb k letterE) _ _ refl refl))
+bare-other : (rules : Rules) (k : ℕ) → isLift (bare rules k) ≡ false
+bare-other rules k =
+    other (eqb k (letterFor union)) _ _ refl (other (eqb k (letterFor difference)) _ _ refl
+    (other (eqb k (letterFor intersection) && rules .intersections) _ _ refl (other (eqb k letterE) _ _ refl refl)))
 
 ranged-other : (passes : ℕ → Bool) (form : ℕ → Line) (o : Option ℕ) → ((g : ℕ) → isLift (form g) ≡ false) → isLift (ranged passes form o) ≡ false
 ranged-other passes form none f = refl
@@ -77,7 +78,7 @@ two-long k f g p n e = go (eqb (letterOf k) letterL) refl (decimal f) refl (deci
 
 long-enough : (rules : Rules) (ps : Parts) (p n : ℕ) → formOf rules ps ≡ Lift p n → 5 ≤ length (join tab ps)
 unfolding formOf join
-long-enough rules (last k) p n e = no-lift (bare (letterOf k)) p n (bare-other (letterOf k)) e
+long-enough rules (last k) p n e = no-lift (bare rules (letterOf k)) p n (bare-other rules (letterOf k)) e
 long-enough rules (part k (last f)) p n e = no-lift (oneNumber rules (letterOf k) (decimal f)) p n (one-other rules (letterOf k) (decimal f)) e
 long-enough rules (part k (part f (last g))) p n e =
     let z = two-long k f g p n e in omega (arith, length-append k (tab ∷ (f ++ (tab ∷ g))), length-append f (tab ∷ g), z .0, z .1, z .2)

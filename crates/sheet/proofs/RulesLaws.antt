@@ -3,7 +3,6 @@
 use mathlib.Core.Path.{_≡_, refl, sym, _∙_}
 use mathlib.Core.Bool.{Bool, true, false, cond, true≢false}
 use mathlib.Core.List.{List, [], _∷_}
-use mathlib.Core.Logic.{inl, inr}
 use Prim.Native.Nat.{ℕ, _+_, _≤_, _<_}
 use native.Mathlib.Omega.{arith}
 use borrow.Author.Tests.{eqb-true, leb-true, leb-false}
@@ -12,12 +11,12 @@ use lib.ListN.{length, length-append}
 use Rattle.text.specs.Parts.{Parts, last, part, split}
 use Rattle.text.specs.Line.{lineFeed}
 use Rattle.sheet.specs.Form.{lineOf}
-use Rattle.sheet.specs.Rules.{Rules, Stricter, baseRules, earlierRules, sheetRules}
+use Rattle.sheet.specs.Rules.{Rules, Stricter, baseRules, earlierRules, twoOperatorRules, sheetRules}
 use Rattle.sheet.specs.Reading.{mostBytes, ReadingState, trees, firstFault, orderFault, isFull, faultOf, stateAfter, nothingRead, ReadingOutcome, accepted, refused, readLines, readWith}
 use Rattle.sheet.specs.declared.Line.{Line}
 use Rattle.sheet.specs.declared.Line.the-variants.{Group, Operator, Lift, Mark, End, Bad}
 use Rattle.sheet.proofs.SoundLaws.{order-none, none-of, bad-fault, group-none, operator-none}
-use Rattle.sheet.proofs.FormLaws.{Forms, forms}
+use Rattle.sheet.proofs.FormLaws.{Forms, same-form, unknown-group, unknown-operator, forms}
 use Rattle.sheet.proofs.AcceptedLaws.{no-outcome}
 
 -- what holds after so many lines without fault, where n nodes are allowed: while the tree is read, each line is a node
@@ -41,13 +40,14 @@ passed-next rules st lines (Mark g) after e P = record { within = P .within; cou
 passed-next rules st lines End after e P = record { within = P .within; counted = λ z. absurd (omega arith) }
 
 -- ---- rules and looser ones
--- what they come to: the same, or the stricter ones refuse the node after their last (5), a group after their last (2), or a lift or a
--- mark (3)
+-- what they come to: the same, or the stricter ones refuse the node after their last (5), a group after their last (2), a lift or a
+-- mark (3), or an `I` (2)
 pub data Outcomes (few more : Rules) (o p : ReadingOutcome) : Type 0 where
   same : o ≡ p → Outcomes few more o p
   no-node : few .nodes < more .nodes → o ≡ refused 5 (few .nodes + 1) → Outcomes few more o p
   no-group : few .lastGroup < more .lastGroup → (line : ℕ) → o ≡ refused 2 line → Outcomes few more o p
   no-task : few .tasks ≡ false → more .tasks ≡ true → (line : ℕ) → o ≡ refused 3 line → Outcomes few more o p
+  no-intersection : few .intersections ≡ false → more .intersections ≡ true → (line : ℕ) → o ≡ refused 2 line → Outcomes few more o p
 
 module _ (few more : Rules) (h : Stricter few more) where
   -- a line's fault by both: the same; or by the stricter ones alone 5, of a line in its place when the tree is full, or 3, of a task
@@ -113,13 +113,14 @@ module _ (few more : Rules) (h : Stricter few more) where
   lines-outcomes : (ps : Parts) → LinesOutcomes ps
   unfolding readLines faultOf
   lines-outcomes (last l) st lines at P = same refl
-  lines-outcomes (part l ls) st lines at P = go (lines-outcomes ls) (forms few more (h .lastGroup) l)
+  lines-outcomes (part l ls) st lines at P = go (lines-outcomes ls) (forms few more (h .lastGroup) (h .intersections) l)
     where
-      go : LinesOutcomes ls → Forms few more (h .lastGroup) (lineOf few l) (lineOf more l) → Outcomes few more (readLines few st lines at (part l ls)) (readLines more st lines at (part l ls))
-      go later (inl e) =
+      go : LinesOutcomes ls → Forms few more (lineOf few l) (lineOf more l) → Outcomes few more (readLines few st lines at (part l ls)) (readLines more st lines at (part l ls))
+      go later (same-form e) =
           rw (← e) (line-outcomes st lines (faultOf few st (lineOf few l)) (faultOf more st (lineOf few l)) _ _ P (faults st (lineOf few l))
           (λ z. later _ (lines + 1) _ (passed-next few st lines (lineOf few l) _ z P)))
-      go later (inr e) = no-group (e .0) (lines + 1) (rw (e .1))
+      go later (unknown-group m e) = no-group m (lines + 1) (rw e)
+      go later (unknown-operator a b e) = no-intersection a b (lines + 1) (rw e)
 
   pub two-rules : (s : List ℕ) → Outcomes few more (readWith few s) (readWith more s)
   unfolding readWith
@@ -138,10 +139,15 @@ module _ (few more : Rules) (h : Stricter few more) where
       go (no-node l q) = no-outcome (sym q ∙ e)
       go (no-group l line q) = no-outcome (sym q ∙ e)
       go (no-task a b line q) = no-outcome (sym q ∙ e)
+      go (no-intersection a b line q) = no-outcome (sym q ∙ e)
 
--- ---- the rules from request to request: request 1 has fewer nodes than 01, request 4 more groups than were there until then
+-- ---- the rules from request to request: request 1 has fewer nodes than 01, request 4 more groups than were there until then, request 6
+-- a third operator
 pub fewer-nodes : Stricter earlierRules baseRules
-fewer-nodes = record { nodes = omega arith; lastGroup = omega arith; tasks = λ _. refl }
+fewer-nodes = record { nodes = omega arith; lastGroup = omega arith; tasks = λ _. refl; intersections = λ e. e }
 
 pub more-groups : Stricter earlierRules sheetRules
-more-groups = record { nodes = omega arith; lastGroup = omega arith; tasks = λ _. refl }
+more-groups = record { nodes = omega arith; lastGroup = omega arith; tasks = λ _. refl; intersections = λ _. refl }
+
+pub third-operator : Stricter twoOperatorRules sheetRules
+third-operator = record { nodes = omega arith; lastGroup = omega arith; tasks = λ _. refl; intersections = λ _. refl }

@@ -7,7 +7,7 @@ use native.Mathlib.Omega.{arith}
 use borrow.Author.Tests.{ltb-false, leb-false, eqb-true, eqb-false, eq-eqb, ne-eqb, lt-ltb}
 use lib.Dec.{eqb, leb, ltb}
 use lib.ListN.{length, length-append}
-use Rattle.tree.specs.Tree.{isGroup, isIn, withNew, collect, mostGroups}
+use Rattle.tree.specs.Tree.{Operator as TreeOperator, sign, isGroup, isIn, withNew, collect, mostGroups}
 use Rattle.tree.specs.InnerGroups.{Distinct, leavesIn}
 use Rattle.tree.specs.Pass.{pass}
 use Rattle.tree.proofs.GroupLaws.{end-cases, is-in-new, collect-append, distinct-end, leaves-append, leaves-one, leaves-sign}
@@ -59,6 +59,10 @@ none-of rules st l e =
 pub bad-fault : (rules : Rules) (st : ReadingState) → faultOf rules st Bad ≡ 0 → ⊥
 unfolding faultOf
 bad-fault rules st e = let z : _≡_ {A = ℕ} 2 0 = e in omega arith
+
+-- request 6, "4 covers `I`": with fewer than two trees waiting, every operator has this fault
+pub too-few-trees : (rules : Rules) (st : ReadingState) (o : TreeOperator) → length (trees (st .entries)) < 2 → kindFault rules st (Operator (sign o)) ≡ 4
+too-few-trees rules st o h = rw (lt-ltb (length (trees (st .entries))) 2 h)
 
 -- a tree that is not full has room for a node
 not-full : (rules : Rules) (st : ReadingState) → isFull rules st ≡ false → length (st .entries) < rules .nodes

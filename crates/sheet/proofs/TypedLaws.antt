@@ -10,7 +10,7 @@ use native.Mathlib.Omega.{arith}
 use borrow.Author.Tests.{le-leb, lt-leb, le-ltb}
 use lib.Dec.{T, leb}
 use lib.ListN.{length, length-append}
-use Rattle.tree.specs.Tree.{Operator as TreeOperator, union, difference, sign, Tree, leaf, node, isGroup, mostGroup, mostNodes, mostGroups, postfix, size, leaves, isIn, withNew, collect, groups}
+use Rattle.tree.specs.Tree.{Operator as TreeOperator, union, difference, intersection, sign, Tree, leaf, node, isGroup, mostGroup, mostNodes, mostGroups, postfix, size, leaves, isIn, withNew, collect, groups}
 use Rattle.tree.specs.Pass.{pass}
 use Rattle.tree.specs.Parse.{waiting}
 use Rattle.tree.proofs.TreeLaws.{group-least, group-most, postfix-length}
@@ -50,10 +50,11 @@ group-formed rules g most h = record {
   form = rw (decimal-digits g, le-leb 1 g (group-least g h), le-leb g (rules .lastGroup) (omega (arith, group-most g h)));
 }
 
-operator-formed : (rules : Rules) (o : TreeOperator) → Formed rules (letterFor o ∷ []) [] (Operator (sign o))
+operator-formed : (rules : Rules) (o : TreeOperator) → rules .intersections ≡ true → Formed rules (letterFor o ∷ []) [] (Operator (sign o))
 unfolding isIn formOf fields
-operator-formed rules union = record { plain = record { noTab = refl; noLineFeed = refl }; form = refl }
-operator-formed rules difference = record { plain = record { noTab = refl; noLineFeed = refl }; form = refl }
+operator-formed rules union may = record { plain = record { noTab = refl; noLineFeed = refl }; form = refl }
+operator-formed rules difference may = record { plain = record { noTab = refl; noLineFeed = refl }; form = refl }
+operator-formed rules intersection may = record { plain = record { noTab = refl; noLineFeed = refl }; form = rw may }
 
 end-formed : (rules : Rules) → Formed rules (letterE ∷ []) [] End
 unfolding isIn formOf fields
@@ -110,25 +111,25 @@ module _ {rules : Rules} {end : ReadingState} {ts : List Tree} {entries groups :
         accepts = λ e n. line-read (group-formed rules g most h) (soFar entries groups at) n at rest (no-fault-group rules entries groups at g room (a .different)) ∙ a .accepts (waiting-group entries g h ts e) (n + 1);
       }
 
-  accepts-operator : (o : TreeOperator) (l r : Tree)
+  accepts-operator : rules .intersections ≡ true → (o : TreeOperator) (l r : Tree)
       → Accepts rules end (node o l r ∷ ts) (entries ++ (sign o ∷ [])) groups (at + length (line (letterFor o ∷ []) [])) rest
       → Accepts rules end (r ∷ (l ∷ ts)) entries groups at (line (letterFor o ∷ []) [] ++ rest)
-  accepts-operator o l r a =
+  accepts-operator may o l r a =
       let room : length entries < rules .nodes = omega (arith, length-append entries (sign o ∷ [])) in
       record {
         nodes = omega arith;
         different = a .different;
-        accepts = λ e n. line-read (operator-formed rules o) (soFar entries groups at) n at rest (no-fault-operator rules entries groups at (sign o) l r ts room e) ∙ a .accepts (waiting-operator entries o l r ts e) (n + 1);
+        accepts = λ e n. line-read (operator-formed rules o may) (soFar entries groups at) n at rest (no-fault-operator rules entries groups at (sign o) l r ts room e) ∙ a .accepts (waiting-operator entries o l r ts e) (n + 1);
       }
 
 -- and with all lines of a tree
-accepts-tree : {rules : Rules} {end : ReadingState} {ts : List Tree} {entries groups : List ℕ} {at : ℕ} {rest : List ℕ} → mostGroup ≤ rules .lastGroup → (t : Tree)
+accepts-tree : {rules : Rules} {end : ReadingState} {ts : List Tree} {entries groups : List ℕ} {at : ℕ} {rest : List ℕ} → mostGroup ≤ rules .lastGroup → rules .intersections ≡ true → (t : Tree)
     → Accepts rules end (t ∷ ts) (entries ++ postfix t) (collect groups (leaves t)) (at + length (treeLines t)) rest → Accepts rules end ts entries groups at (treeLines t ++ rest)
 unfolding treeLines postfix leaves collect
-accepts-tree most (leaf g h) a = accepts-group most g h a
-accepts-tree {groups = groups} most (node o l r) a =
+accepts-tree most may (leaf g h) a = accepts-group most g h a
+accepts-tree {groups = groups} most may (node o l r) a =
     simp append-assoc
-    (accepts-tree most l (accepts-tree most r (accepts-operator o l r (rw (collect-append groups (leaves l) (leaves r)) at (simp (← append-assoc, length-append, ← add-assoc) at a)))))
+    (accepts-tree most may l (accepts-tree most may r (accepts-operator may o l r (rw (collect-append groups (leaves l) (leaves r)) at (simp (← append-assoc, length-append, ← add-assoc) at a)))))
 
 -- at the end one tree waits, and `E` closes it
 accepts-end : (rules : Rules) (t : Tree) (entries groups : List ℕ) (at : ℕ) → length entries ≤ rules .nodes → length groups ≤ mostGroups
@@ -140,9 +141,9 @@ accepts-end rules t entries groups at h k = record {
   accepts = λ e n. rw (← append-nil (line (letterE ∷ []) [])) (line-read (end-formed rules) (soFar entries groups at) n at [] (no-fault-end rules entries groups at t e));
 }
 
-pub typed-accepted : (rules : Rules) (t : Tree) → mostGroup ≤ rules .lastGroup → size t ≤ rules .nodes → size t ≤ mostNodes → length (groups t) ≤ mostGroups
+pub typed-accepted : (rules : Rules) (t : Tree) → mostGroup ≤ rules .lastGroup → rules .intersections ≡ true → size t ≤ rules .nodes → size t ≤ mostNodes → length (groups t) ≤ mostGroups
     → readWith rules (typed t) ≡ accepted (record { phase = ended; entries = postfix t; groups = groups t; marks = []; start = length (treeLines t); lifts = [] })
 unfolding readWith typed pass
-typed-accepted rules t most h k few =
+typed-accepted rules t most may h k few =
     let closed = accepts-end rules t (postfix t) (groups t) (0 + length (treeLines t)) (omega (arith, postfix-length t)) few in
-    rw (le-ltb mostBytes (length (typed t)) (typed-short t k), ← zero-add (length (treeLines t))) (accepts-tree most t closed .accepts refl 0)
+    rw (le-ltb mostBytes (length (typed t)) (typed-short t k), ← zero-add (length (treeLines t))) (accepts-tree most may t closed .accepts refl 0)

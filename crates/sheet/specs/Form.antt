@@ -1,10 +1,10 @@
 -- Document 01, "The sheet": the forms of its lines. A line of any other bytes is `Bad`.
-use mathlib.Core.Bool.{Bool, cond}
+use mathlib.Core.Bool.{Bool, cond, _&&_}
 use mathlib.Core.List.{List, [], _∷_}
 use mathlib.Core.Option.{Option, some, none}
 use Prim.Native.Nat.{ℕ}
 use lib.Dec.{eqb, leb}
-use Rattle.tree.specs.Tree.{Operator as TreeOperator, isUpTo, union, difference, sign}
+use Rattle.tree.specs.Tree.{Operator as TreeOperator, isUpTo, union, difference, intersection, sign}
 use Rattle.text.specs.Decimal.{decimal}
 use Rattle.text.specs.Parts.{Parts, last, part, split}
 use Rattle.text.specs.Line.{tab}
@@ -25,10 +25,11 @@ letterK = 75
 abbrev pub letterE : ℕ
 letterE = 69
 
--- those of the operators: "`U`, `D`: the tree"
+-- those of the operators: "`U`, `D`: the tree"; request 6: "The sheet gains `I`, a third operator"
 abbrev pub letterFor : TreeOperator → ℕ
 letterFor union = 85
 letterFor difference = 68
+letterFor intersection = 73
 
 -- "position (0 to 8190)"
 abbrev pub mostPosition : ℕ
@@ -57,11 +58,13 @@ abbrev pub ranged : (ℕ → Bool) → (ℕ → Line) → Option ℕ → Line
 ranged passes form none = Bad
 ranged passes form (some n) = cond (passes n) (form n) Bad
 
--- "`U`, `D`: the tree"; "`E`: end." An operator is its number in the tree's list.
-abbrev pub bare : ℕ → Line
-bare kind =
+-- "`U`, `D`: the tree"; request 6: "The sheet gains `I`, a third operator", where the rules have it; "`E`: end." An operator is its
+-- number in the tree's list.
+abbrev pub bare : Rules → ℕ → Line
+bare rules kind =
     cond (eqb kind (letterFor union)) (Operator (sign union))
-    (cond (eqb kind (letterFor difference)) (Operator (sign difference)) (cond (eqb kind letterE) End Bad))
+    (cond (eqb kind (letterFor difference)) (Operator (sign difference))
+    (cond (eqb kind (letterFor intersection) && rules .intersections) (Operator (sign intersection)) (cond (eqb kind letterE) End Bad)))
 
 -- "`G` group"; "`K` group ..: a mark.": from 1 to the rules' last one
 abbrev pub oneNumber : Rules → ℕ → Option ℕ → Line
@@ -75,7 +78,7 @@ twoNumbers kind p n = cond (eqb kind letterL) (ranged isPosition (λ p. ranged i
 -- the form of a line with these fields, by the rules: a kind alone, with one number or with two. "Decimal fields have no leading zero;
 -- nought is `0`": `decimal`, of `text` specs/Decimal.antt.
 unfoldable pub formOf : Rules → Parts → Line
-formOf rules (last kind) = bare (letterOf kind)
+formOf rules (last kind) = bare rules (letterOf kind)
 formOf rules (part kind (last f)) = oneNumber rules (letterOf kind) (decimal f)
 formOf rules (part kind (part f (last g))) = twoNumbers (letterOf kind) (decimal f) (decimal g)
 formOf rules (part kind (part f (part g fs))) = Bad

@@ -89,7 +89,7 @@ abbrev pub isFull : Rules → ReadingState → Bool
 isFull rules st = leb (rules .nodes) (length (st .entries))
 
 -- "then by kind, in this order: 4 `U` or `D` with fewer than two trees waiting; 5 .. node; 6 a ninth different group; 8 a mark of a
--- group not in the tree; 9 a mark twice"
+-- group not in the tree; 9 a mark twice"; request 6: "4 covers `I`"
 abbrev pub kindFault : Rules → ReadingState → Line → ℕ
 kindFault rules st (Operator x) = cond (ltb (length (trees (st .entries))) 2) 4 (cond (isFull rules st) 5 0)
 kindFault rules st (Group g) = cond (isFull rules st) 5 (cond (not (isIn (st .groups) g) && leb mostGroups (length (st .groups))) 6 0)

@@ -71,13 +71,16 @@ pub struct LineAt {
 
 // The line of a kind alone.
 fn bare_line(kind: u8) -> Line
-    ensures { λ r. ⌜ r ≡ bare kind ⌝ }
+    ensures { λ r. ⌜ r ≡ bare sheetRules kind ⌝ }
 {
     if kind == b'U' {
         return Line::Operator(tree::UNION);
     }
     if kind == b'D' {
         return Line::Operator(tree::DIFFERENCE);
+    }
+    if kind == b'I' {
+        return Line::Operator(tree::INTERSECTION);
     }
     if kind == b'E' {
         return Line::End;

@@ -89,6 +89,23 @@ pub fn trees() {
     case(b"operator with one tree|G\t1\nD\n");
 }
 
+// The third operator, with the entries of its tree.
+pub fn intersections() {
+    let bytes = b"G\t1\nG\t2\nI\nE\n";
+    show(b"I", bytes);
+    let r = sheet::read(bytes);
+    let tree = r.tree;
+    show_list(b"its tree", &tree, 4);
+}
+
+pub fn intersection_lines() {
+    case(b"I first|I\nE\n");
+    case(b"I with one tree|G\t1\nI\n");
+    case(b"I with a field|G\t1\nG\t2\nI\t1\nE\n");
+    case(b"I after a lift|G\t1\nL\t0\t1\nI\n");
+    case(b"small i|G\t1\nG\t2\ni\nE\n");
+}
+
 pub fn marks() {
     case(b"mark of no group|G\t1\nK\t2\nE\n");
     case(b"mark twice|G\t1\nK\t1\nK\t1\nE\n");
@@ -198,6 +215,8 @@ pub fn one_node_more() {
     show_nodes(b"256th line U with three trees", b"", 129, 126, b"U\n");
     show_nodes(b"256th line D with one tree", b"", 128, 127, b"D\n");
     show_nodes(b"256th line D with three trees", b"", 129, 126, b"D\n");
+    show_nodes(b"256th line I with one tree", b"", 128, 127, b"I\n");
+    show_nodes(b"256th line I with three trees", b"", 129, 126, b"I\n");
 }
 
 // 255 tree lines, and a 256th of the other kinds.

@@ -9,6 +9,8 @@ fn main() {
     cases::past_the_end();
     cases::order();
     cases::trees();
+    cases::intersections();
+    cases::intersection_lines();
     cases::marks();
     cases::groups();
     cases::fields();

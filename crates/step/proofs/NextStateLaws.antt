@@ -1,15 +1,16 @@
 -- Request 3: the state that the formula gives is "A's state in the tree after the step".
 use mathlib.Core.Path.{_≡_, refl, sym, ap, _∙_}
-use mathlib.Core.Option.{Option, some}
+use mathlib.Core.Option.{Option, some, none}
 use mathlib.Core.List.{List, [], _∷_, _++_, map, map-append, append-assoc}
+use Prim.Native.Nat.{ℕ}
 use native.Mathlib.Omega.{arith}
-use lib.ListN.{length}
-use Rattle.tree.specs.Tree.{Operator, union, difference, Basic, plus, minus, operatorOf, Tree, node}
+use lib.ListN.{length, length-append}
+use Rattle.tree.specs.Tree.{Operator, union, difference, intersection, Basic, plus, minus, operatorOf, Tree, node}
 use Rattle.tree.specs.Context.{Side, left, right, Frame, frame}
-use Rattle.moves.specs.Moves.{Formula, Move, replaceT, replaceTWithD, State, moveOf, basic, stateWith, inputOf, inputWith, under, value, framesOf}
+use Rattle.moves.specs.Moves.{Formula, Move, replaceT, replaceTWithD, State, moveOf, basic, stateWith, inputA, inputOf, inputWith, under, value, framesOf}
 use Rattle.moves.specs.NextState.{Kind, kind, kindOfFrame, kindOfInput, kindsAbove, stateBelow, stateIn, leftAbove, stateAfter}
 use Rattle.moves.proofs.NextStateLaws.{two-left, map-above}
-use Rattle.step.specs.Step.{Outcome, moved, needs, step, stepBy}
+use Rattle.step.specs.Step.{moved, needs, step, stepBy}
 
 -- the frames of an entry, and then others
 entry-kinds : (b c d : Tree) (p : Formula) (r : List Frame) → map kindOfFrame (framesOf b c d p ++ r) ≡ kindsAbove p ++ map kindOfFrame r
@@ -47,11 +48,28 @@ module _ (b c d : Tree) (u : Side) (r e : List Frame) where
   with-input x w h =
       ap stateBelow (left-frames (moveOf x) w h) ∙ first-two (leftAbove (moveOf x) (inputOf u w)) (map kindOfFrame r) (two-left x (inputOf u w))
 
+  -- an `I` is then A's grandparent
+  under-intersection : (m : Move) → length (leftAbove m inputA) ≡ 2 → stepBy m b c (frame u intersection d ∷ r) ≡ moved e → stateIn e ≡ none
+  under-intersection (replaceT p) l h =
+      let q : e ≡ framesOf b c c p ++ (frame u intersection d ∷ r) = cc in
+      ap stateIn q ∙ ap stateBelow (entry-kinds b c c p (frame u intersection d ∷ r)) ∙ go (kindsAbove p) l
+    where
+      none-second : (s : Side) (x : Option Basic) → stateWith s x u none ≡ none
+      none-second s (some o) = refl
+      none-second s none = refl
+
+      go : (ks : List Kind) → length (ks ++ (kindOfInput inputA ∷ [])) ≡ 2 → stateBelow (ks ++ (kind u intersection ∷ map kindOfFrame r)) ≡ none
+      go [] l = absurd (omega arith)
+      go (kind s o ∷ []) l = none-second s (basic o)
+      go (j ∷ (k ∷ ks)) l = absurd (let z = length-append ks (kindOfInput inputA ∷ []) in omega arith)
+  under-intersection (replaceTWithD x y z v) l h = absurd (let z : _≡_ {A = ℕ} 0 1 = cc in omega arith)
+
   by-operator : (x : State) (w : Operator) → stepBy (moveOf x) b c (frame u w d ∷ r) ≡ moved e → stateIn e ≡ stateAfter x (inputWith u (basic w))
   by-operator x union h = with-input x plus h
   by-operator x difference h = with-input x minus h
+  by-operator x intersection h = under-intersection (moveOf x) (two-left x inputA) h
 
--- "A's state in the tree after the step", of a node with the state x; without a D it has none then
+-- "A's state in the tree after the step", of a node with the state x; without a D it has none then, nor under an `I`
 pub next-state : (s : Side) (o : Operator) (t : Side) (q : Operator) (u : Side) (w : Operator) (b c d : Tree) (r e : List Frame) (x : State)
     → stateWith s (basic o) t (basic q) ≡ some x → step (frame s o b ∷ (frame t q c ∷ (frame u w d ∷ r))) ≡ moved e
     → stateIn e ≡ stateAfter x (inputWith u (basic w))

@@ -12,7 +12,7 @@ use Rattle.moves.specs.NextState.{stateIn, stateAfter}
 use Rattle.moves.specs.InnerEntries.{stateNumber, optionalNumber, InputIs}
 use Rattle.moves.proofs.TableLaws.{state-range, input-range, kind-input, rest-input}
 use Rattle.moves.proofs.NextStateLaws.{input-rest}
-use Rattle.step.specs.Step.{stuck, moved, needs, step, stepBy}
+use Rattle.step.specs.Step.{stuck, blocked, moved, needs, step, stepBy}
 use Rattle.step.specs.InnerStanding.{StateIs}
 use Rattle.step.specs.InnerSteps.{UnderIs, ReplaceIs}
 use Rattle.step.specs.declared.Stretch.{Stretch}
@@ -67,8 +67,8 @@ module _ {l : List ℕ} {a : Tree} {c : List Frame} {k₁ : ℕ} {atB atP : Stre
       by-number = S ∙ ap (λ (c : List Frame). optionalNumber (stateIn c)) two
 
       -- a node without a state has no step
-      pub stuck-without-state : n .state ≡ 0 → step c ≡ stuck
-      stuck-without-state z =
+      pub blocked-without-state : n .state ≡ 0 → step c ≡ blocked
+      blocked-without-state z =
           ap step two ∙ step-two (G .side) (G .operator) (G .sibling) (H .side) (H .operator) (H .sibling) (H .rest)
           ∙ ap (λ (y : Option State). needs y (λ x. stepBy (moveOf x) (G .sibling) (H .sibling) (H .rest))) (unnumbered its-state (sym by-number ∙ z))
 
@@ -138,8 +138,8 @@ module _ {l : List ℕ} {a : Tree} {c : List Frame} {k₁ : ℕ} {atB atP : Stre
           pub t-alone : n .state ≤ 4 → ReplaceIs l n c k₃ atB atC atC atT
           t-alone h = t-here its-input input-is h state-after
 
-          pub stuck-without-input : 4 ≤ k₃ → 4 < n .state → step c ≡ stuck
-          stuck-without-input k h =
+          pub blocked-without-input : 4 ≤ k₃ → 4 < n .state → step c ≡ blocked
+          blocked-without-input k h =
               step-is (K .is) ∙ no-input x (G .sibling) (H .sibling) (K .side) (K .operator) (K .sibling) (K .rest) (omega (arith, Numbered .2)) (go its-input input-is)
             where
               go : (y : Option Input) → InputIs k₃ y → y ≡ none

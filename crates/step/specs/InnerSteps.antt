@@ -11,7 +11,7 @@ use Rattle.moves.specs.Moves.{State, Input, moveOf, framesOf}
 use Rattle.moves.specs.NextState.{stateIn, stateAfter}
 use Rattle.moves.specs.InnerWords.{cut, Range}
 use Rattle.moves.specs.InnerEntries.{stateNumber, inputNumber, InputIs, entryOf}
-use Rattle.step.specs.Step.{stuck, moved, step}
+use Rattle.step.specs.Step.{stuck, blocked, moved, step}
 use Rattle.step.specs.InnerStanding.{Standing}
 use Rattle.step.specs.declared.Node.{Node}
 use Rattle.step.specs.declared.Plan.{Plan}
@@ -66,6 +66,7 @@ pub record ReplaceIs (list : List ℕ) (n : Node) (c : List Frame) (input : ℕ)
 -- what a plan says of the step of a node with the context c
 abbrev pub Planned : List ℕ → Node → List Frame → Plan → Type 0
 Planned list n c plan.Stuck = step c ≡ stuck
+Planned list n c plan.Blocked = step c ≡ blocked
 Planned list n c (plan.Replace input atB atC atD whole) = ReplaceIs list n c input atB atC atD whole
 
 -- the step of the part a with the context c gives too long a tree
@@ -85,5 +86,6 @@ pub record StepDone (a : Tree) (c : List Frame) (nodes : ℕ) (n : Node) (out : 
 -- what the step answers, and what the buffer then holds
 abbrev pub StepIs : Tree → List Frame → Stepped → List ℕ → Type 0
 StepIs a c stepped.Stuck out = step c ≡ stuck
+StepIs a c stepped.Blocked out = step c ≡ blocked
 StepIs a c stepped.TooLong out = StepTooLong a c
 StepIs a c (stepped.Done nodes n) out = StepDone a c nodes n out

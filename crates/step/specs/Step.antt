@@ -5,14 +5,16 @@ use Rattle.tree.specs.Tree.{Tree}
 use Rattle.tree.specs.Context.{Frame, frame}
 use Rattle.moves.specs.Moves.{Move, replaceT, replaceTWithD, moveOf, basic, stateWith, inputWith, under, framesOf}
 
--- no step (01's number 15), or the new frames above A
+-- no step (01's number 15), none because of an `I` (27, of request 6), or the new frames above A
 pub data Outcome : Type 0 where
   stuck : Outcome
+  blocked : Outcome
   moved : List Frame → Outcome
 
--- what is done with a state or an input, where there is one
+-- request 6: "A lift in which the parent, the grandparent or the node above T is an `I`, where that node is needed, is refused with 27
+-- before 15 is considered for the step": every step needs a state, those in states 5 to 9 an input
 abbrev pub needs : {X : Type 0} → Option X → (X → Outcome) → Outcome
-needs none f = stuck
+needs none f = blocked
 needs (some x) f = f x
 
 -- A's step by its move, its sibling b, its uncle c and the frames above T; request 2: "A step is refused with 15 exactly when A is at level 2

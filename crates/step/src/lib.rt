@@ -31,15 +31,17 @@ pub enum Framed {
     Under(u8, Stretch, Stretch),
 }
 
-// What a step does: nothing; or, with this input and these stretches of B, C and D, it replaces the last stretch by a move entry.
+// What a step does: nothing, for want of a D or because of an intersection; or, with this input and these stretches of B, C and D, it replaces the last stretch by a move entry.
 pub enum Plan {
     Stuck,
+    Blocked,
     Replace(usize, Stretch, Stretch, Stretch, Stretch),
 }
 
-// A step's answer: there is none (15); its result is too long (16); or how many nodes the new tree has, and A in it.
+// A step's answer: there is none (15), or none because of an intersection (27); its result is too long (16); or how many nodes the new tree has, and A in it.
 pub enum Stepped {
     Stuck,
+    Blocked,
     TooLong,
     Done(usize, Node),
 }
@@ -87,7 +89,7 @@ fn plan_step(list: &[u16], node: Node) -> Plan
         return Plan::Stuck;
     };
     if node.state == 0 {
-        return Plan::Stuck;
+        return Plan::Blocked; // by the parent or the grandparent
     }
     let Framed::Under(kind, d, whole) = frame_above(list, t) else {
         if node.state <= LAST_ALONE {
@@ -100,7 +102,7 @@ fn plan_step(list: &[u16], node: Node) -> Plan
         return Plan::Replace(input, b, c, c, t);
     }
     if NO_INPUT <= input {
-        return Plan::Stuck;
+        return Plan::Blocked; // by the node above T
     }
     Plan::Replace(input, b, c, d, whole)
 }
@@ -111,21 +113,24 @@ pub fn step(list: &[u16], node: Node, out: &mut [u16]) -> Stepped
     requires { ⌜ (length (now list) ≤ mostNodes) × (mostNodes ≤ length (now out)) ⌝ }
     ensures { λ r. ⌜ ((a : Tree) (c : List Frame) → Standing (now (list .entry)) node a c → StepIs a c r (now (out .exit))) ⌝ }
 {
-    let Plan::Replace(input, b, c, d, old) = plan_step(list, node) else {
-        return Stepped::Stuck;
-    };
-    let from = [node.from, b.from, c.from, d.from];
-    let to = [node.to, b.to, c.to, d.to];
-    let entry = moves::move_word(node.state, input);
-    match moves::replace(list, from, to, &entry, old.from, old.to, out) {
-        Replacement::TooLong => Stepped::TooLong,
-        Replacement::Done { nodes, from: start } => {
-            let next = Node {
-                from: start,
-                to: start + (node.to - node.from),
-                state: moves::next_state(&entry, node.state, input),
-            };
-            Stepped::Done(nodes, next)
+    match plan_step(list, node) {
+        Plan::Stuck => Stepped::Stuck,
+        Plan::Blocked => Stepped::Blocked,
+        Plan::Replace(input, b, c, d, old) => {
+            let from = [node.from, b.from, c.from, d.from];
+            let to = [node.to, b.to, c.to, d.to];
+            let entry = moves::move_word(node.state, input);
+            match moves::replace(list, from, to, &entry, old.from, old.to, out) {
+                Replacement::TooLong => Stepped::TooLong,
+                Replacement::Done { nodes, from: start } => {
+                    let next = Node {
+                        from: start,
+                        to: start + (node.to - node.from),
+                        state: moves::next_state(&entry, node.state, input),
+                    };
+                    Stepped::Done(nodes, next)
+                }
+            }
         }
     }
 }

@@ -47,7 +47,7 @@ fn places(list: &[u16], groups: &[u16]) -> [u8; tree::MOST_NODES]
 fn combine(x: u16, a: bool, b: bool) -> bool
     ensures { λ r. ⌜ ((o : Operator) → x ≡ sign o → r ≡ apply o a b) ⌝ }
 {
-    (a & !b) | (b & (x == tree::UNION))
+    (a & (b == (x == tree::INTERSECTION))) | (b & (x == tree::UNION))
 }
 
 // The operator at an index of the list; 0 where the list is over or has a leaf there.

@@ -1,5 +1,5 @@
 -- Laws of a node's context: the list around it, what the whole selects, and the node at a position.
-use mathlib.Core.Path.{_≡_, refl, sym, ap, _∙_}
+use mathlib.Core.Path.{_≡_, refl, sym, ap, subst, _∙_}
 use mathlib.Core.Bool.{Bool, true, false, cond}
 use mathlib.Core.List.{List, [], _∷_, _++_, append-assoc, append-nil}
 use Prim.Native.Nat.{ℕ, _+_, _-_, _<_}
@@ -7,8 +7,8 @@ use native.Mathlib.Omega.{arith}
 use borrow.Author.Tests.{ltb-true, ltb-false, lt-ltb, le-ltb}
 use lib.Dec.{ltb}
 use lib.ListN.{length, length-append}
-use Rattle.tree.specs.Tree.{Operator, Tree, leaf, node, postfix, size, selects, sign, apply}
-use Rattle.tree.specs.Context.{left, right, Frame, frame, sided, plug, before, position, Place}
+use Rattle.tree.specs.Tree.{Operator, union, difference, intersection, Tree, leaf, node, postfix, size, selects, sign, apply, WithoutIntersection}
+use Rattle.tree.specs.Context.{Side, left, right, Frame, frame, sided, plug, before, position, Place}
 use Rattle.tree.specs.Parse.{locate}
 use Rattle.tree.proofs.TreeLaws.{postfix-length, size-positive}
 
@@ -104,3 +104,21 @@ locate-plug h c =
 
 pub position-most : (h : Tree) (c : List Frame) → position h c < size (plug h c)
 position-most h c = omega (arith, size-plug h c, size-positive h)
+
+-- ---- in a tree without `I` no part has one, and no frame is an `I`'s
+both-without : (o : Operator) (l r : Tree) → WithoutIntersection (node o l r) → WithoutIntersection l × WithoutIntersection r
+unfolding WithoutIntersection
+both-without union l r w = w
+both-without difference l r w = w
+both-without intersection l r w = absurd w
+
+pub without-part : (t : Tree) (c : List Frame) → WithoutIntersection (plug t c) → WithoutIntersection t
+unfolding plug
+without-part t [] w = w
+without-part t (frame left o b ∷ c) w = both-without o t b (without-part (node o t b) c w) .0
+without-part t (frame right o b ∷ c) w = both-without o b t (without-part (node o b t) c w) .1
+
+pub without-frame : (t : Tree) (s : Side) (o : Operator) (b : Tree) (c : List Frame) → WithoutIntersection (plug t (frame s o b ∷ c)) → o ≡ intersection → ⊥
+unfolding plug WithoutIntersection
+without-frame t left o b c w e = subst (λ (o : Operator). WithoutIntersection (node o t b)) e (without-part (node o t b) c w)
+without-frame t right o b c w e = subst (λ (o : Operator). WithoutIntersection (node o b t)) e (without-part (node o b t) c w)

@@ -9,7 +9,7 @@ use native.Mathlib.Omega.{arith}
 use borrow.Author.Tests.{eqb-true, eqb-false, eq-eqb, ne-eqb, lt-ltb}
 use lib.Dec.{T, eqb, ltb}
 use lib.ListN.{length, length-append, getD, drop, drop-of-length-le}
-use Rattle.tree.specs.Tree.{Operator, union, difference, sign, Tree, leaf, node, isGroup, postfix, leaves, isIn, withNew, collect, groups, Over}
+use Rattle.tree.specs.Tree.{Operator, union, difference, intersection, sign, Tree, leaf, node, isGroup, postfix, leaves, isIn, withNew, collect, groups, Over}
 use Rattle.tree.specs.InnerGroups.{Distinct, leavesIn}
 use Rattle.tree.proofs.PassLaws.{here}
 use Rattle.tree.proofs.TreeLaws.{group-most, is-in-append, in-left, in-right, over-leaves, leaves-over, over-implies, or-false, or-right, or-cases}
@@ -233,6 +233,7 @@ pub leaves-sign : (o : Operator) → leavesIn (sign o ∷ []) ≡ []
 unfolding leavesIn
 leaves-sign union = refl
 leaves-sign difference = refl
+leaves-sign intersection = refl
 
 -- those of a tree's list are its leaves
 pub leaves-postfix : (t : Tree) → leavesIn (postfix t) ≡ leaves t

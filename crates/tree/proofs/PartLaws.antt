@@ -6,12 +6,12 @@ use native.Mathlib.Omega.{arith}
 use lib.Dec.{T}
 use lib.ListN.{length, getD, take, drop, length-append, length-reverse}
 use lib.Seq.{take-at, drop-at, getD-at, getD-drop}
-use Rattle.tree.specs.Tree.{Operator, union, difference, Tree, leaf, node, isGroup, sign, postfix, size}
+use Rattle.tree.specs.Tree.{Operator, Tree, leaf, node, isGroup, sign, postfix, size}
 use Rattle.tree.specs.Context.{left, right, Frame, frame, plug, before}
 use Rattle.tree.proofs.ContextLaws.{after, postfix-plug, found-at}
 use Rattle.tree.specs.Parse.{locate}
-use Rattle.tree.specs.InnerPart.{Part, kindOf, aboveOf}
-use Rattle.tree.specs.InnerScan.{operatorKind, onward, backward}
+use Rattle.tree.specs.InnerPart.{Part, kindNumber, aboveOf}
+use Rattle.tree.specs.InnerScan.{onward, backward}
 use Rattle.tree.specs.declared.Above.the-variants.{Root, Under}
 use Rattle.tree.proofs.TreeLaws.{postfix-length, size-positive}
 use Rattle.tree.proofs.ParseLaws.{IsTree, tree-length}
@@ -137,14 +137,6 @@ before-right o b c = simp (length-append, postfix-length)
 found : {l : List ℕ} {f t p : ℕ} {a : Tree} (c : List Frame) → Part l f t a c → p ≡ t + onward 0 (drop t l) → p ≡ t + onward 0 (after c)
 found {l} {f} {t} c P e = e ∙ ap (λ (x : List ℕ). t + onward 0 x) (part-drop P)
 
-kind-left : (o : Operator) → operatorKind (sign o) ≡ kindOf left o
-kind-left union = refl
-kind-left difference = refl
-
-kind-right : (o : Operator) → 2 + operatorKind (sign o) ≡ kindOf right o
-kind-right union = refl
-kind-right difference = refl
-
 -- ---- the three answers of `above_part`
 pub is-root : (l : List ℕ) (f t p : ℕ) (a : Tree) (c : List Frame) → Part l f t a c → p ≡ t + onward 0 (drop t l) → length l ≤ p → Root ≡ aboveOf f t c
 unfolding aboveOf
@@ -153,18 +145,18 @@ is-root l f t p a (frame left o b ∷ c) P e h = absurd (omega (arith, found _ P
 is-root l f t p a (frame right o b ∷ c) P e h = absurd (omega (arith, found _ P e, up-right o b c, after-right o b c, part-length P))
 
 pub is-left : (l : List ℕ) (f t p : ℕ) (a : Tree) (c : List Frame) → Part l f t a c → p ≡ t + onward 0 (drop t l) → p < length l → (p ≡ t → ⊥)
-    → (k : ℕ) → k ≡ operatorKind (getD l p 0) → Under k t p f (p + 1) ≡ aboveOf f t c
+    → (k : ℕ) → ((o : Operator) → getD l p 0 ≡ sign o → k ≡ kindNumber o) → Under k t p f (p + 1) ≡ aboveOf f t c
 unfolding aboveOf
 is-left l f t p a [] P e h n k ke = absurd (unfold after in omega (arith, found _ P e, part-length P))
 is-left l f t p a (frame right o b ∷ c) P e h n k ke = absurd (omega (arith, found _ P e, up-right o b c))
 is-left l f t p a (frame left o b ∷ c) P e h n k ke =
     let q : p ≡ t + size b = omega (arith, found _ P e, up-left o b c) in
     let x : getD l p 0 ≡ sign o = ap (λ (i : ℕ). getD l i 0) q ∙ part-at P (size b) ∙ at-left o b c in
-    cc (ke ∙ ap operatorKind x ∙ kind-left o)
+    cc (ke o x)
 
 pub is-right : (l : List ℕ) (f t p s : ℕ) (a : Tree) (c : List Frame) → Part l f t a c → p ≡ t + onward 0 (drop t l) → p < length l → p ≡ t
     → s ≡ backward 1 (reverse (take f l))
-    → (k : ℕ) → k ≡ operatorKind (getD l p 0) → Under (2 + k) s f s (p + 1) ≡ aboveOf f t c
+    → (k : ℕ) → ((o : Operator) → getD l p 0 ≡ sign o → k ≡ kindNumber o) → Under (2 + k) s f s (p + 1) ≡ aboveOf f t c
 unfolding aboveOf
 is-right l f t p s a [] P e h n w k ke = absurd (unfold after in omega (arith, part-length P))
 is-right l f t p s a (frame left o b ∷ c) P e h n w k ke = absurd (omega (arith, found _ P e, up-left o b c, size-positive b))
@@ -173,4 +165,4 @@ is-right l f t p s a (frame right o b ∷ c) P e h n w k ke =
     let x : getD l p 0 ≡ sign o = ap (λ (i : ℕ). getD l i 0) q ∙ part-at P 0 ∙ (unfold after in refl) in
     let y : s ≡ length (before c) = w ∙ ap (λ (x : List ℕ). backward 1 (reverse x)) (part-take P) ∙ back-right o b c in
     let z : s ≡ f - size b = omega (arith, P .begins, before-right o b c) in
-    cc (ap (λ (k : ℕ). 2 + k) (ke ∙ ap operatorKind x) ∙ kind-right o)
+    cc (ke o x)

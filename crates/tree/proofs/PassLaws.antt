@@ -11,7 +11,7 @@ use lib.Dec.{T, T-prop, eqb}
 use borrow.Author.Tests.{eqb-true}
 use lib.ListN.{length, getD, set, drop, drop-of-length-le}
 use lib.Seq.{drop-cons, getD-set-same, getD-set-other}
-use Rattle.tree.specs.Tree.{Operator, union, difference, Tree, leaf, node, isGroup, postfix, size, sign}
+use Rattle.tree.specs.Tree.{Operator, union, difference, intersection, Tree, leaf, node, isGroup, postfix, size, sign}
 use Rattle.tree.specs.Pass.{Entry, group, operator, neither, classify, entryOf, pushed, andThen, pass}
 use Rattle.tree.specs.InnerPass.{fold}
 
@@ -25,6 +25,7 @@ pub entry-sign : (o : Operator) → entryOf (sign o) ≡ operator o
 unfolding entryOf
 entry-sign union = refl
 entry-sign difference = refl
+entry-sign intersection = refl
 
 pub entry-leaf : (g : ℕ) (h : T (isGroup g)) → entryOf g ≡ group g h
 unfolding entryOf
@@ -44,14 +45,14 @@ pub entry-writes : (x : ℕ) → Writes (entryOf x) x
 unfolding entryOf
 entry-writes x = go (isGroup x) refl
   where
-    two : (b c : Bool) → eqb x (sign union) ≡ b → eqb x (sign difference) ≡ c → Writes (cond b (operator union) (cond c (operator difference) neither)) x
-    two true c e f = eqb-true x (sign union) e
-    two false true e f = eqb-true x (sign difference) f
-    two false false e f = tt
+    -- by one operator's number, or as the others say
+    by : (o : Operator) (b : Bool) (e : Entry) → eqb x (sign o) ≡ b → Writes e x → Writes (cond b (operator o) e) x
+    by o true e p w = eqb-true x (sign o) p
+    by o false e p w = w
 
     go : (b : Bool) (e : isGroup x ≡ b) → Writes (classify x b e) x
     go true e = refl
-    go false e = two (eqb x (sign union)) (eqb x (sign difference)) refl refl
+    go false e = by union (eqb x (sign union)) _ refl (by difference (eqb x (sign difference)) _ refl (by intersection (eqb x (sign intersection)) _ refl tt))
 
 -- one entry on
 pub here : (xs : List ℕ) (i : ℕ) → i < length xs → drop i xs ≡ getD xs i 0 ∷ drop (i + 1) xs

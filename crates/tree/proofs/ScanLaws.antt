@@ -8,7 +8,7 @@ use borrow.Author.Tests.{le-leb, lt-leb, ne-eqb}
 use lib.Dec.{T, leb}
 use lib.ListN.{length, getD, take, drop, length-reverse, drop-of-length-le}
 use lib.Seq.{take-suc, length-take-le}
-use Rattle.tree.specs.Tree.{Operator, union, difference, Tree, leaf, node, isGroup, sign, postfix, size}
+use Rattle.tree.specs.Tree.{Operator, union, difference, intersection, Tree, leaf, node, isGroup, sign, postfix, size}
 use Rattle.tree.specs.Pass.{classify, entryOf}
 use Rattle.tree.specs.InnerScan.{entryKind, isOperator, onward, backward}
 use Rattle.tree.proofs.TreeLaws.{group-most}
@@ -59,6 +59,7 @@ module _ (l : List ℕ) (i n : ℕ) (p : 0 < i) (h : i ≤ length l) where
 pub operator-sign : (o : Operator) → isOperator (sign o) ≡ true
 operator-sign union = refl
 operator-sign difference = refl
+operator-sign intersection = refl
 
 pub operator-leaf : (g : ℕ) → T (isGroup g) → isOperator g ≡ false
 operator-leaf g h = lt-leb (sign union) g (omega (arith, group-most g h))
@@ -105,10 +106,10 @@ module _ (x : ℕ) where
   pub kind-operator : (o : Operator) → x ≡ sign o → 1 ≡ entryKind (entryOf x)
   kind-operator o e = sym (ap entryKind (ap entryOf e ∙ entry-sign o))
 
-  pub kind-neither : isGroup x ≡ false → (x ≡ sign union → ⊥) → (x ≡ sign difference → ⊥) → 2 ≡ entryKind (entryOf x)
+  pub kind-neither : isGroup x ≡ false → ((o : Operator) → x ≡ sign o → ⊥) → 2 ≡ entryKind (entryOf x)
   unfolding entryOf
-  kind-neither e n m = go (isGroup x) refl e
+  kind-neither e n = go (isGroup x) refl e
     where
       go : (b : Bool) (q : isGroup x ≡ b) → b ≡ false → 2 ≡ entryKind (classify x b q)
       go true q f = absurd (true≢false f)
-      go false q f = rw (ne-eqb x (sign union) n, ne-eqb x (sign difference) m)
+      go false q f = rw (ne-eqb x (sign union) (n union), ne-eqb x (sign difference) (n difference), ne-eqb x (sign intersection) (n intersection))

@@ -7,7 +7,7 @@ use native.Mathlib.Omega.{arith}
 use borrow.Author.Tests.{eq-eqb, eqb-true}
 use lib.Dec.{T, eqb, leb, leb→le}
 use lib.ListN.{length, length-append}
-use Rattle.tree.specs.Tree.{Operator, union, difference, sign, Tree, leaf, node, isGroup, mostGroup, postfix, size, apply, selects, Equivalent, Over, leaves, isIn}
+use Rattle.tree.specs.Tree.{Operator, union, difference, intersection, sign, Tree, leaf, node, isGroup, mostGroup, postfix, size, apply, selects, Equivalent, Over, leaves, isIn}
 
 -- ---- both halves of a conjunction
 pub and-left : (x y : Bool) → T (x && y) → T x
@@ -25,10 +25,11 @@ group-least g h = leb→le 1 g (and-left (leb 1 g) (leb g mostGroup) h)
 pub group-most : (g : ℕ) → T (isGroup g) → g ≤ mostGroup
 group-most g h = leb→le g mostGroup (and-right (leb 1 g) (leb g mostGroup) h)
 
--- union has the lower of the operators' numbers
+-- union has the lowest of the operators' numbers
 pub sign-least : (o : Operator) → sign union ≤ sign o
 sign-least union = omega arith
 sign-least difference = omega arith
+sign-least intersection = omega arith
 
 -- ---- size and length
 pub size-positive : (t : Tree) → 0 < size t
@@ -76,6 +77,7 @@ unfolding selects
 selects-nothing (leaf g h) = refl
 selects-nothing (node union l r) = ap₂ _||_ (selects-nothing l) (selects-nothing r)
 selects-nothing (node difference l r) = ap (λ (x : Bool). x && not (selects (λ g. false) r)) (selects-nothing l)
+selects-nothing (node intersection l r) = ap (λ (x : Bool). x && selects (λ g. false) r) (selects-nothing l)
 
 -- ---- membership
 pub or-false : (x : Bool) → (x || false) ≡ x

@@ -3,7 +3,7 @@ use mathlib.Core.Path.{_≡_}
 use mathlib.Core.List.{List, [], _∷_}
 use Prim.Native.Nat.{ℕ, _+_, _-_}
 use lib.ListN.{length}
-use Rattle.tree.specs.Tree.{Operator, union, difference, Tree, postfix, size}
+use Rattle.tree.specs.Tree.{Operator, union, difference, intersection, Tree, postfix, size}
 use Rattle.tree.specs.Context.{Side, left, right, Frame, frame, plug, before}
 use Rattle.tree.specs.declared.Above.{Above}
 use Rattle.tree.specs.declared.Above.the-variants.{Root, Under}
@@ -18,12 +18,16 @@ pub record Part (list : List ℕ) (from to : ℕ) (a : Tree) (c : List Frame) : 
 abbrev pub Located : List ℕ → ℕ → ℕ → Type 0
 Located list from to = (a : Tree) × (c : List Frame) × Part list from to a c
 
+-- an operator's number among the kinds of frames: 4 and more are those of an `I`
+abbrev pub kindNumber : Operator → ℕ
+kindNumber union = 0
+kindNumber difference = 1
+kindNumber intersection = 4
+
 -- a frame's side and operator as a number
 abbrev pub kindOf : Side → Operator → ℕ
-kindOf left union = 0
-kindOf left difference = 1
-kindOf right union = 2
-kindOf right difference = 3
+kindOf left o = kindNumber o
+kindOf right o = 2 + kindNumber o
 
 -- what `above_part` answers for the part from `from` up to `to` with this context: its frame, the sibling's entries and the parent's
 unfoldable pub aboveOf : ℕ → ℕ → List Frame → Above

@@ -3,7 +3,7 @@
 use mathlib.Core.Bool.{Bool, cond}
 use mathlib.Core.List.{List, [], _∷_}
 use Prim.Native.Nat.{ℕ, _+_, _-_}
-use lib.Dec.{eqb, leb}
+use lib.Dec.{leb}
 use lib.ListN.{length}
 use Rattle.tree.specs.Tree.{union, sign}
 use Rattle.tree.specs.Pass.{Entry, group, operator, neither}
@@ -13,10 +13,6 @@ abbrev pub entryKind : Entry → ℕ
 entryKind (group g h) = 0
 entryKind (operator o) = 1
 entryKind neither = 2
-
--- an operator's number among the operators
-abbrev pub operatorKind : ℕ → ℕ
-operatorKind x = cond (eqb x (sign union)) 0 1
 
 -- in a tree's list, the operators are the numbers from union's on
 abbrev pub isOperator : ℕ → Bool

@@ -6,7 +6,7 @@ use mathlib.Core.List.{List, [], _∷_}
 use mathlib.Core.Option.{Option, some, none}
 use Prim.Native.Nat.{ℕ, _+_}
 use lib.Dec.{T, eqb}
-use Rattle.tree.specs.Tree.{Operator, union, difference, isGroup, sign}
+use Rattle.tree.specs.Tree.{Operator, union, difference, intersection, isGroup, sign}
 
 -- what a number of a list is
 pub data Entry : Type 0 where
@@ -17,7 +17,10 @@ pub data Entry : Type 0 where
 -- a group if it is one, else by the operators' numbers
 abbrev pub classify : (x : ℕ) (b : Bool) → isGroup x ≡ b → Entry
 classify x true e = group x (subst T (sym e) tt)
-classify x false e = cond (eqb x (sign union)) (operator union) (cond (eqb x (sign difference)) (operator difference) neither)
+classify x false e =
+    cond (eqb x (sign union)) (operator union)
+    (cond (eqb x (sign difference)) (operator difference)
+    (cond (eqb x (sign intersection)) (operator intersection) neither))
 
 -- what the number x is
 unfoldable pub entryOf : ℕ → Entry

@@ -25,17 +25,19 @@ mostNodes = 8191
 abbrev pub mostGroups : ℕ
 mostGroups = 8
 
--- the operators of 01's trees
+-- the operators of 01's trees, and request 6: "The sheet gains `I`, a third operator"
 pub data Operator : Type 0 where
   union : Operator
   difference : Operator
+  intersection : Operator
 
--- "65001 is union (written U), 65002 is difference (written D)"
+-- "65001 is union (written U), 65002 is difference (written D)"; request 6: "`I`, a third operator (65003)"
 abbrev pub sign : Operator → ℕ
 sign union = 65001
 sign difference = 65002
+sign intersection = 65003
 
--- the two of them that move entries have, and the trees that gathering builds: "`+` for union and `-` for difference"
+-- the two of 01, of which move entries and the trees that gathering builds are made to this day
 pub data Basic : Type 0 where
   plus : Basic
   minus : Basic
@@ -60,10 +62,11 @@ unfoldable pub size : Tree → ℕ
 size (leaf g h) = 1
 size (node o l r) = size l + size r + 1
 
--- of one lamp: union, and "earlier operand without the later"
+-- of one lamp: union, "earlier operand without the later", and request 6: "lamps in both"
 abbrev pub apply : Operator → Bool → Bool → Bool
 apply union x y = x || y
 apply difference x y = x && not y
+apply intersection x y = x && y
 
 -- "A rig gives each group its set of lamps": whether the group has the lamp
 abbrev pub Rig : Type 0
@@ -86,6 +89,13 @@ pub record Equivalent (t u : Tree) : Type 0 where
 unfoldable pub Over : (ℕ → Bool) → Tree → Type 0
 Over m (leaf g h) = m g ≡ true
 Over m (node o l r) = Over m l × Over m r
+
+-- no node is an `I`: a tree of 01
+unfoldable pub WithoutIntersection : Tree → Type 0
+WithoutIntersection (leaf g h) = Unit {0}
+WithoutIntersection (node union l r) = WithoutIntersection l × WithoutIntersection r
+WithoutIntersection (node difference l r) = WithoutIntersection l × WithoutIntersection r
+WithoutIntersection (node intersection l r) = ⊥
 
 -- the groups of the leaves, from left to right
 unfoldable pub leaves : Tree → List ℕ

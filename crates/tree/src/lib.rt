@@ -3,16 +3,16 @@ ghost use mathlib.Core.Path.{_≡_};
 ghost use mathlib.Core.List.{List, [], _∷_, reverse};
 ghost use Prim.Native.Nat.{ℕ, _+_, _≤_, _<_};
 ghost use lib.ListN.{length, take, drop};
-ghost use Rattle.tree.specs.Tree.{Tree, isGroup, isIn, collect, mostGroups};
+ghost use Rattle.tree.specs.Tree.{Operator, sign, Tree, isGroup, isIn, collect, mostGroups};
 ghost use Rattle.tree.specs.Context.{Frame};
 ghost use Rattle.tree.specs.Pass.{entryOf};
 ghost use Rattle.tree.specs.Parse.{treeOf, isSome};
-ghost use Rattle.tree.specs.InnerPart.{Part, Located, aboveOf};
-ghost use Rattle.tree.specs.InnerScan.{entryKind, operatorKind, onward, backward};
+ghost use Rattle.tree.specs.InnerPart.{Part, Located, kindNumber, aboveOf};
+ghost use Rattle.tree.specs.InnerScan.{entryKind, onward, backward};
 ghost use Rattle.tree.specs.InnerWriting.{Wrote};
 ghost use Rattle.tree.specs.InnerGroups.{leavesIn, Collected};
 
-// 01's numbers; the last group is 02's, request 4.
+// 01's numbers; the last group is 02's, request 4, and the third operator, request 6.
 pub const LEAST_GROUP: u16 = 1;
 
 pub const MOST_GROUP: u16 = 60000;
@@ -20,6 +20,8 @@ pub const MOST_GROUP: u16 = 60000;
 pub const UNION: u16 = 65001;
 
 pub const DIFFERENCE: u16 = 65002;
+
+pub const INTERSECTION: u16 = 65003;
 
 pub const MOST_NODES: usize = 8191;
 
@@ -112,6 +114,9 @@ fn entry_kind(x: u16) -> u8
     if x == DIFFERENCE {
         return 1;
     }
+    if x == INTERSECTION {
+        return 1;
+    }
     2
 }
 
@@ -194,8 +199,8 @@ pub fn part_start(list: &[u16], to: usize) -> usize
     scan_backward(list, to)
 }
 
-// What is above a part: nothing, or the operator that takes it. `kind` is 0 or 1 for a left operand of a union or a
-// difference, 2 or 3 for a right one; then come the entries of the part's sibling and of its parent's part.
+// What is above a part: nothing, or the operator that takes it. `kind` is 0, 1 or 4 for a left operand of a union, a
+// difference or an intersection, 2, 3 or 6 for a right one; then come the entries of the part's sibling and of its parent's part.
 pub enum Above {
     Root,
     Under {
@@ -207,10 +212,17 @@ pub enum Above {
     },
 }
 
+// An operator's number among the kinds of frames.
 fn operator_kind(x: u16) -> u8
-    ensures { λ r. ⌜ (r ≡ operatorKind x) × (r < 2) ⌝ }
+    ensures { λ r. ⌜ ((o : Operator) → x ≡ sign o → r ≡ kindNumber o) × (r ≤ 4) ⌝ }
 {
-    if x == UNION { 0 } else { 1 }
+    if x == UNION {
+        return 0;
+    }
+    if x == DIFFERENCE {
+        return 1;
+    }
+    4
 }
 
 // What is above the part that has the entries from `from` up to `to`. It passes over the sibling only.

@@ -28,6 +28,7 @@ const BAR: f64 = 2.0;
 const GATHER_BAR: f64 = 0.8;
 const MARKS_BAR: f64 = 1.2;
 const LARGE_GROUPS_BAR: f64 = 1.2;
+const INTERSECTION_BAR: f64 = 1.2;
 const NAME_WIDTH: usize = 56;
 const KEY_BAR: Duration = Duration::from_millis(20);
 const SHEET_LIFTS: usize = 50;
@@ -65,12 +66,14 @@ fn compare(name: &str, bar: f64, runs: usize, verified: &mut dyn FnMut(), refere
     verified
 }
 
-/// Runs a key program once on a sheet.
-fn run_program(program: &Path, sheet: &[u8]) {
+/// Runs a key program once on a sheet; answers the key.
+fn run_program(program: &Path, sheet: &[u8]) -> Vec<u8> {
     let spawned = Command::new(program).stdin(Stdio::piped()).stdout(Stdio::piped()).spawn();
     let mut child = spawned.expect("the program starts");
     child.stdin.take().expect("its input").write_all(sheet).expect("the sheet is written");
-    assert!(child.wait_with_output().expect("its output").status.success());
+    let output = child.wait_with_output().expect("its output");
+    assert!(output.status.success());
+    output.stdout
 }
 
 fn sheet(tree: &[u16], lifts: &[(usize, usize)], marks: &[u16]) -> Vec<u8> {
@@ -140,7 +143,7 @@ fn slowest_sheet() -> Vec<u8> {
 }
 
 fn bench_key(name: &str, bar: f64, runs: usize, sheet: &[u8], program: &Path, own: &Path) {
-    let (mut verified, mut reference) = (|| run_program(program, sheet), || run_program(own, sheet));
+    let (mut verified, mut reference) = (|| keep(run_program(program, sheet)), || keep(run_program(own, sheet)));
     if compare(name, bar, runs, &mut verified, &mut reference) > KEY_BAR {
         println!("  ABOVE 20 ms");
     }
@@ -162,6 +165,21 @@ fn bench_keys(program: &Path, own: &Path, random: &mut Random) {
         bench_key(name, bar, PROGRAM_RUNS, &sheet, program, own);
     }
     bench_key("key: 255 nodes, 60,000 bytes of lifts", BAR, SLOW_RUNS, &slowest_sheet(), program, own);
+    bench_intersection_key(program, own, random);
+}
+
+/// A tree with all three operators alike. A program without `I` prints another key.
+fn bench_intersection_key(program: &Path, own: &Path, random: &mut Random) {
+    let name = "key: 255 nodes with I, 50 lifts";
+    let groups: Vec<u16> = (1..=8).collect();
+    let tree = Shape::mixed().with_intersections(3).tree(SHEET_NODES.div_ceil(2), &groups, random);
+    let lifts: Vec<(usize, usize)> = (0..SHEET_LIFTS).map(|_| (random.below(SHEET_NODES), 1)).collect();
+    let sheet = sheet(&tree, &lifts, &[]);
+    if run_program(program, &sheet) == run_program(own, &sheet) {
+        bench_key(name, INTERSECTION_BAR, PROGRAM_RUNS, &sheet, program, own);
+    } else {
+        println!("{name:<NAME_WIDTH$} another key");
+    }
 }
 
 fn bench_lift(name: &str, tree: &[u16], position: usize, levels: usize) {
@@ -223,7 +241,7 @@ fn bench_code(random: &mut Random) {
     }
 }
 
-/// One play. A library with a smaller range of groups refuses it.
+/// One play. A library with a smaller range of groups, or without BOTH, refuses it.
 fn bench_play(name: &str, bar: f64, code: &[u16], patch: &[u16]) {
     let (mut lamps, mut own_lamps) = ([0; LAMP_BYTES], [0; LAMP_BYTES]);
     let number = library::play(code, patch, &mut lamps);
@@ -247,6 +265,16 @@ fn bench_large_groups(random: &mut Random) {
     bench_play(&name, LARGE_GROUPS_BAR, &encode(&tree).expect("a tree"), &patch);
 }
 
+/// Code with ADD, CUT and BOTH alike, and a full patch.
+fn bench_both(random: &mut Random) {
+    let groups: Vec<u16> = (1..=1000).collect();
+    let tree = Shape::mixed().with_intersections(3).tree(MAXIMUM_NODES.div_ceil(2), &groups, random);
+    let pair = |random: &mut Random| [random.pick(&groups), random.between(1, usize::from(LAST_LAMP)) as u16];
+    let patch: Vec<u16> = (0..MAXIMUM_PAIRS).flat_map(|_| pair(random)).collect();
+    let name = "play: 8,191 instructions with BOTH, 4,096 pairs";
+    bench_play(name, INTERSECTION_BAR, &encode(&tree).expect("a tree"), &patch);
+}
+
 fn main() -> ExitCode {
     let arguments: Vec<String> = std::env::args().skip(1).collect();
     let [key_program, mark_program] = &arguments[..] else {
@@ -261,6 +289,7 @@ fn main() -> ExitCode {
     bench_gather(&mut random());
     bench_code(&mut random());
     bench_large_groups(&mut random());
+    bench_both(&mut random());
     bench_marks::bench_marks(Path::new(mark_program), &this.with_file_name("reference_mark"), &mut random());
     ExitCode::SUCCESS
 }

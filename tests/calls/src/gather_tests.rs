@@ -1,14 +1,20 @@
-//! `gather`: random trees and marks, large tables, the limits, the edges of groups and the order of faults.
+//! `gather`: random trees and marks, large tables, every function of few groups, the edges of groups and the order of
+//! faults. That the tree of one without `I` has none either is tested of every call (`check`).
 
 use crate::faults::{choices, Fault};
-use crate::inputs::{buffer_length, count_last_group, filled, list, numbers, same, same_buffer, MOST_LEAVES};
+use crate::inputs::{
+    buffer_length, count_intersection, count_last_group, filled, list, numbers, same, same_buffer, MOST_LEAVES,
+};
 use calls::library;
 use reference::calls::{GatherAnswer, TREE_BUFFER};
 use reference::check::{ensure, gathering};
+use reference::closure::{gathered_sizes, Sizes, UNREACHED};
 use reference::random::Random;
 use reference::report::Report;
-use reference::shape::{gatherable_table, join, some_groups, table_tree, Shape, GROUP_EDGES};
-use reference::tree::{groups, Operator, DIFFERENCE, UNION};
+use reference::shape::{
+    gatherable_table, intersection, join, some_groups, table_tree, union_of_groups, Operators, Shape, GROUP_EDGES,
+};
+use reference::tree::{groups, DIFFERENCE, INTERSECTION, THREE_OPERATORS, TWO_OPERATORS, UNION};
 
 struct Input {
     tree: Vec<u16>,
@@ -43,6 +49,7 @@ fn compare(name: &str, input: &Input, report: &mut Report) -> u32 {
     report.count(format!("gather: {name}"));
     report.count(format!("gather: answered {}", answer[0]));
     count_last_group("gather", &input.tree, answer[0], report);
+    count_intersection("gather", &input.tree, answer[0], report);
     report.saved_test(&format!("gather, {name}"), result, &[("txt", text.as_bytes())]);
     answer[0]
 }
@@ -76,20 +83,29 @@ fn table_gathering(random: &mut Random) -> Input {
     let marked = random.between(1, count - 1);
     let groups = some_groups(count, random);
     let tree = table_tree(&gatherable_table(count, marked, random), &groups);
-    Input { tree, marks: groups[..marked].to_vec(), buffer: TREE_BUFFER }
+    Input { tree: with_intersection_or_not(tree, random), marks: groups[..marked].to_vec(), buffer: TREE_BUFFER }
+}
+
+/// The tree, or an equivalent one with an `I`.
+fn with_intersection_or_not(tree: Vec<u16>, random: &mut Random) -> Vec<u16> {
+    match Operators::any(random) {
+        Operators::WithoutIntersection => tree,
+        Operators::All => intersection(&tree, &union_of_groups(&groups(&tree))),
+    }
 }
 
 /// A tree of 8,191 nodes, at random or gathered already.
 fn largest(random: &mut Random) -> Input {
     let groups = some_groups(8, random);
     let (marks, others) = groups.split_at(random.between(1, 7));
-    let shape = Shape::any(random);
+    let operators = Operators::any(random);
+    let shape = Shape::any(operators, random);
     let leaves = random.between(1, MOST_LEAVES - 1);
     let tree = if random.one_in(2) {
         shape.tree(MOST_LEAVES, &groups, random)
     } else {
         let (holder, rest) = (shape.tree(leaves, marks, random), shape.tree(MOST_LEAVES - leaves, others, random));
-        let operator = random.pick(&[Operator::Union, Operator::Difference]);
+        let operator = operators.pick(random);
         if random.one_in(2) {
             join(&holder, &rest, operator)
         } else {
@@ -109,7 +125,14 @@ fn fault_order(report: &mut Report) {
         (18, |input| input.marks.clear()),
     ];
     let (u, d) = (UNION, DIFFERENCE);
-    for (none, tree) in [(19, [1, 3, d, 2, 4, d, u]), (0, [1, 2, d, 3, 4, d, u])] {
+    let both = INTERSECTION;
+    let trees = [
+        (19, [1, 3, d, 2, 4, d, u]),
+        (0, [1, 2, d, 3, 4, d, u]),
+        (19, [1, 3, both, 2, 4, both, u]),
+        (0, [1, 2, both, 3, 4, d, both]),
+    ];
+    for (none, tree) in trees {
         let fresh = || Input { tree: tree.to_vec(), marks: vec![1, 2], buffer: TREE_BUFFER };
         for (number, input) in choices(&faults, none, fresh) {
             let answered = compare("order of faults", &input, report);
@@ -118,14 +141,24 @@ fn fault_order(report: &mut Report) {
     }
 }
 
-/// 01's samples (vii) to (x): the tree, the marks and whether it is gathered.
+/// 01's samples (vii) to (x), and others with `I`: the tree, the marks and the number due.
 fn samples(report: &mut Report) {
-    let (u, d) = (UNION, DIFFERENCE);
-    let samples: [(&[u16], &[u16], u32); 4] = [
+    let (u, d, both) = (UNION, DIFFERENCE, INTERSECTION);
+    let samples: [(&[u16], &[u16], u32); 14] = [
         (&[1, 3, d, 2, 4, d, u], &[1, 2], 19),
         (&[1, 3, d, 2, 3, d, u], &[1, 2], 0),
         (&[1, 2, d, 2, 1, d, u], &[1], 19),
         (&[1, 1, 2, d, d], &[1], 0),
+        (&[1, 2, both], &[1], 0),
+        (&[1, 2, both], &[2], 0),
+        (&[1, 2, both, 3, u], &[1, 2], 0),
+        (&[1, 3, both, 2, 3, both, u], &[1, 2], 0),
+        (&[1, 2, both, 3, both], &[3, 1], 0),
+        (&[1, 3, both, 2, 4, both, u], &[1, 2], 19),
+        (&[1, 2, u, 1, 2, both, d], &[1], 19),
+        (&[1, 2, 65_004], &[1], 12),
+        (&[1, both, 2], &[1], 12),
+        (&[1, 2, both], &[both], 18),
     ];
     for (tree, marks, number) in samples {
         let answered =
@@ -154,18 +187,48 @@ fn group_edge(number: u16, is_group: bool, report: &mut Report) {
     }
 }
 
+/// So many groups have every function tried.
+const FEW: usize = 3;
+
+/// One function with these marks, given without `I` and with one. The closure over gathered trees of two operators and
+/// the one over all three give the number due.
+fn verdict(function: usize, groups: &[u16], marked: &[usize], closures: &[Sizes; 2], report: &mut Report) {
+    let [two, three] = closures.each_ref().map(|sizes| if sizes[function] == UNREACHED { 19 } else { 0 });
+    let table: Vec<bool> = (0..1 << groups.len()).map(|row| function >> row & 1 == 1).collect();
+    let marks: Vec<u16> = marked.iter().map(|&place| groups[place]).collect();
+    let tree = table_tree(&table, groups);
+    for tree in [intersection(&tree, &union_of_groups(groups)), tree] {
+        let answered = compare("every function", &Input { tree, marks: marks.clone(), buffer: TREE_BUFFER }, report);
+        report.test("gather, verdict by the closures", same("numbers", &[answered; 2], &[two, three]));
+    }
+}
+
+/// Every function of one to three groups that a tree has, with every choice of marks.
+fn verdicts(report: &mut Report) {
+    for count in 1..=FEW {
+        let groups: Vec<u16> = (1..=count as u16).collect();
+        for choice in 1..1_usize << count {
+            let marked: Vec<usize> = (0..count).filter(|place| choice >> place & 1 == 1).collect();
+            let closures = [TWO_OPERATORS, THREE_OPERATORS].map(|operators| gathered_sizes(count, &marked, operators));
+            let functions = (0..1_usize << (1 << count)).filter(|function| function & 1 == 0);
+            functions.for_each(|function| verdict(function, &groups, &marked, &closures, report));
+        }
+    }
+}
+
 pub fn run(report: &mut Report) {
     let mut random = Random::new(4);
-    for _ in 0..4000 {
+    for _ in 0..6000 {
         compare("random", &random_gathering(&mut random), report);
     }
-    for _ in 0..2000 {
+    for _ in 0..3000 {
         compare("table", &table_gathering(&mut random), report);
     }
     for _ in 0..60 {
         compare("largest", &largest(&mut random), report);
     }
     samples(report);
+    verdicts(report);
     GROUP_EDGES.iter().for_each(|&(number, is_group)| group_edge(number, is_group, report));
     fault_order(report);
 }

@@ -2,8 +2,8 @@
 
 use reference::random::Random;
 use reference::report::Report;
-use reference::shape::{edge_number, some_groups, spread_groups, Shape};
-use reference::tree::{LAST_GROUP, MAXIMUM_NODES};
+use reference::shape::{edge_number, some_groups, spread_groups, Operators, Shape};
+use reference::tree::{without_intersection, LAST_GROUP, MAXIMUM_NODES};
 
 /// The leaves of a tree of the most nodes.
 pub const MOST_LEAVES: usize = MAXIMUM_NODES.div_ceil(2);
@@ -31,7 +31,7 @@ pub fn tree(most_groups: usize, random: &mut Random) -> Vec<u16> {
     let count = random.between(1, most_groups);
     let groups = some_groups(count, random);
     let leaves = leaves(random);
-    Shape::any(random).tree(leaves, &groups, random)
+    Shape::any(Operators::any(random), random).tree(leaves, &groups, random)
 }
 
 /// A chain of 8,191 nodes to the left or to the right, each leaf another group, from the first to the last.
@@ -101,7 +101,18 @@ pub fn with_number_after(list: &str, number: u32) -> String {
     format!("{list}: the number after the last group, answered {number}")
 }
 
-/// Counts a call that belongs to one of these categories.
+/// The category of calls with an `I` in the list, by their answer.
+pub fn with_intersection(list: &str, number: u32) -> String {
+    format!("{list}: with I, answered {number}")
+}
+
+pub fn count_intersection(name: &str, list: &[u16], answered: u32, report: &mut Report) {
+    if !without_intersection(list) {
+        report.count(with_intersection(name, answered));
+    }
+}
+
+/// Counts a call that belongs to a category of the last group.
 pub fn count_last_group(name: &str, list: &[u16], answered: u32, report: &mut Report) {
     match answered {
         0 if list.contains(&LAST_GROUP) => report.count(with_last_group(name)),

@@ -1,7 +1,10 @@
-//! `lift`: random lifts, state 9, level 2, chains, the node limit, the edges of groups and the order of faults.
+//! `lift`: random lifts, state 9, level 2, chains, the node limit, the edges of groups and the order of faults. Those
+//! about an `I` are in `intersection_lifts`.
 
 use crate::faults::{choices, Fault};
-use crate::inputs::{buffer_length, chain, count_last_group, filled, filled_after, list, numbers, same, same_buffer};
+use crate::inputs::{
+    buffer_length, chain, count_intersection, count_last_group, filled, filled_after, list, numbers, same, same_buffer,
+};
 use calls::library;
 use reference::calls::{lift_call, LiftAnswer, TREE_BUFFER};
 use reference::check::{ensure, table};
@@ -9,19 +12,19 @@ use reference::gather::numbered;
 use reference::lift::lift;
 use reference::random::Random;
 use reference::report::Report;
-use reference::shape::{join, levels_of_nodes, Shape, GROUP_EDGES};
-use reference::tree::{groups, Nodes, Operator, DIFFERENCE, LAST_GROUP, MAXIMUM_NODES, UNION};
+use reference::shape::{join, levels_of_nodes, Operators, Shape, GROUP_EDGES};
+use reference::tree::{groups, Nodes, Operator, DIFFERENCE, INTERSECTION, LAST_GROUP, MAXIMUM_NODES, UNION};
 
-struct Input {
-    tree: Vec<u16>,
-    position: usize,
-    levels: usize,
-    buffer: usize,
+pub struct Input {
+    pub tree: Vec<u16>,
+    pub position: usize,
+    pub levels: usize,
+    pub buffer: usize,
 }
 
 impl Input {
     /// The library's answer and the buffer after it.
-    fn call(&self) -> (LiftAnswer, Vec<u16>) {
+    pub fn call(&self) -> (LiftAnswer, Vec<u16>) {
         let mut out = filled(self.buffer);
         (library::lift(&self.tree, self.position, self.levels, &mut out), out)
     }
@@ -68,7 +71,7 @@ fn done_lift(input: &Input, answer: &LiftAnswer, out: &[u16]) -> Result<(), Stri
 }
 
 /// Calls the library and the reference alike and compares everything.
-fn compare(name: &str, input: &Input, report: &mut Report) -> u32 {
+pub fn compare(name: &str, input: &Input, report: &mut Report) -> u32 {
     let mut expected_out = filled(input.buffer);
     let expected = lift_call(&input.tree, input.position, input.levels, &mut expected_out);
     let (answer, out) = input.call();
@@ -81,6 +84,7 @@ fn compare(name: &str, input: &Input, report: &mut Report) -> u32 {
     report.count(format!("lift: {name}"));
     report.count(format!("lift: answered {}", expected[0]));
     count_last_group("lift", &input.tree, answer[0], report);
+    count_intersection("lift", &input.tree, answer[0], report);
     report.saved_test(&format!("lift, {name}"), result, &[("txt", text.as_bytes())]);
     answer[0]
 }
@@ -97,30 +101,36 @@ fn random_lift(random: &mut Random) -> Input {
 }
 
 /// Frames around a part, from the part up: the sibling, the operator, and whether the part is first.
-struct Frames(Vec<(Vec<u16>, Operator, bool)>);
+pub struct Frames(pub Vec<(Vec<u16>, Operator, bool)>);
 
 impl Frames {
-    /// Frames by 01's input letters; each sibling is a leaf: group 1, group 2, and then groups 3 to 7 again and again.
-    fn of_inputs(inputs: impl Iterator<Item = char>) -> Frames {
+    /// Frames by 01's input letters, and i and j for an `I` with the part as its left or right operand; each sibling is
+    /// a leaf: group 1, group 2, and then groups 3 to 7 again and again.
+    pub fn of_inputs(inputs: impl Iterator<Item = char>) -> Frames {
         let frame = |(input, group): (char, u16)| {
-            let operator = if matches!(input, 'a' | 'c') { Operator::Union } else { Operator::Difference };
-            (vec![group], operator, matches!(input, 'a' | 'b'))
+            let operator = match input {
+                'a' | 'c' => Operator::Union,
+                'b' | 'd' => Operator::Difference,
+                _ => Operator::Intersection,
+            };
+            (vec![group], operator, matches!(input, 'a' | 'b' | 'i'))
         };
         Frames(inputs.zip((1..=2).chain((3..=7).cycle())).map(frame).collect())
     }
 
-    fn random(random: &mut Random) -> Frames {
+    pub fn random(random: &mut Random) -> Frames {
         let groups: Vec<u16> = (1..=8).collect();
+        let operators = Operators::any(random);
         let frame = |random: &mut Random| {
             let leaves = random.between(1, 400);
-            let sibling = Shape::any(random).tree(leaves, &groups, random);
-            (sibling, random.pick(&[Operator::Union, Operator::Difference]), random.one_in(2))
+            let sibling = Shape::any(operators, random).tree(leaves, &groups, random);
+            (sibling, operators.pick(random), random.one_in(2))
         };
         Frames((0..random.between(3, 6)).map(|_| frame(random)).collect())
     }
 
     /// The whole tree, and the part's position in it.
-    fn around(&self, part: &[u16]) -> (Vec<u16>, usize) {
+    pub fn around(&self, part: &[u16]) -> (Vec<u16>, usize) {
         let mut position = part.len() - 1;
         let mut tree = part.to_vec();
         for (sibling, operator, part_first) in &self.0 {
@@ -138,7 +148,7 @@ fn lift_to(result: usize, random: &mut Random) -> Option<Input> {
     let (tree, position) = frames.around(&[9]);
     let least = lift(&tree, position, levels).ok()?.tree.len();
     let size = result.checked_sub(least - 1)?;
-    let part = Shape::any(random).tree(size.div_ceil(2), &[9], random);
+    let part = Shape::any(Operators::any(random), random).tree(size.div_ceil(2), &[9], random);
     let (tree, position) = frames.around(&part);
     (tree.len() <= MAXIMUM_NODES).then_some(Input { tree, position, levels, buffer: TREE_BUFFER })
 }
@@ -148,15 +158,16 @@ const STATE_9: [(&str, &str); 4] =
     [("CBA--D+", "CD+BD-A--"), ("CBA--D-", "CD-BA--"), ("DCBA--+", "CD+BD-A--"), ("DCBA---", "DC-DDB--A-+")];
 
 /// States 5 to 9 without D.
-const WITHOUT_D: [&str; 8] = ["AB+C-", "BA+C-", "AB-C+", "CAB-+", "BA-C+", "CBA-+", "CAB--", "CBA--"];
+pub const WITHOUT_D: [&str; 8] = ["AB+C-", "BA+C-", "AB-C+", "CAB-+", "BA-C+", "CBA-+", "CAB--", "CBA--"];
 
 /// The tree that a word stands for when these are A to D, and A's position in it.
-fn tree_of(word: &str, parts: &[Vec<u16>; 4]) -> (Vec<u16>, usize) {
+pub fn tree_of(word: &str, parts: &[Vec<u16>; 4]) -> (Vec<u16>, usize) {
     let (mut tree, mut position) = (Vec::new(), 0);
     for sign in word.bytes() {
         match sign {
             b'+' => tree.push(UNION),
             b'-' => tree.push(DIFFERENCE),
+            b'&' => tree.push(INTERSECTION),
             letter => tree.extend(&parts[usize::from(letter - b'A')]),
         }
         if sign == b'A' {
@@ -167,15 +178,15 @@ fn tree_of(word: &str, parts: &[Vec<u16>; 4]) -> (Vec<u16>, usize) {
 }
 
 /// A to D, each with two groups of its own.
-fn four_parts(random: &mut Random) -> [Vec<u16>; 4] {
+pub fn four_parts(random: &mut Random) -> [Vec<u16>; 4] {
     [[1, 2], [3, 4], [5, 6], [7, 8]].map(|groups| {
         let leaves = random.between(1, 20);
-        Shape::any(random).tree(leaves, &groups, random)
+        Shape::any(Operators::any(random), random).tree(leaves, &groups, random)
     })
 }
 
-/// One step in state 9, with frames above D or without, beside the tree of 02's word.
-fn state_9(frames: &Frames, words: (&str, &str), name: &str, random: &mut Random, report: &mut Report) {
+/// One step with frames above the first word's tree or without, beside the tree of the second word.
+pub fn step_by_words(frames: &Frames, words: (&str, &str), name: &str, random: &mut Random, report: &mut Report) {
     let parts = four_parts(random);
     let whole = |word: &str| {
         let (part, position) = tree_of(word, &parts);
@@ -202,8 +213,8 @@ fn level_2(word: &str, levels: usize, random: &mut Random, report: &mut Report) 
 fn states(random: &mut Random, report: &mut Report) {
     for _ in 0..100 {
         for words in STATE_9 {
-            state_9(&Frames(Vec::new()), words, "state 9 at level 3", random, report);
-            state_9(&Frames::random(random), words, "state 9 deeper", random, report);
+            step_by_words(&Frames(Vec::new()), words, "state 9 at level 3", random, report);
+            step_by_words(&Frames::random(random), words, "state 9 deeper", random, report);
             // The first step leads to state 9 or 7.
             level_2(words.0, 2, random, report);
         }
@@ -246,7 +257,7 @@ fn long_chains(report: &mut Report) {
 }
 
 fn limits(report: &mut Report) {
-    for operator in [UNION, DIFFERENCE] {
+    for operator in [UNION, DIFFERENCE, INTERSECTION] {
         for to_the_left in [true, false] {
             let tree = chain(operator, to_the_left);
             for position in [0, 1, 4094, 4095, 4096, 8189, 8190, 8191] {
@@ -278,17 +289,19 @@ fn group_edge(number: u16, is_group: bool, replaced: u16, report: &mut Report) {
     report.test(&format!("lift, {number} in place of {replaced} by hand"), result);
 }
 
+/// The faults that come before every step.
+pub const FAULTS: [Fault<Input>; 4] = [
+    (11, |input| input.buffer = TREE_BUFFER - 1),
+    (12, |input| input.tree.push(1)),
+    (13, |input| input.position = 1000),
+    (14, |input| input.levels = 0),
+];
+
 fn fault_order(report: &mut Report) {
-    let faults: [Fault<Input>; 4] = [
-        (11, |input| input.buffer = TREE_BUFFER - 1),
-        (12, |input| input.tree.push(1)),
-        (13, |input| input.position = 1000),
-        (14, |input| input.levels = 0),
-    ];
     // State 6 without D has number 15, with D it is done.
     for (none, tree) in [(15, vec![1, 2, DIFFERENCE, 3, UNION]), (0, vec![1, 2, DIFFERENCE, 3, UNION, 4, UNION])] {
         let fresh = || Input { tree: tree.clone(), position: 0, levels: 1, buffer: TREE_BUFFER };
-        for (number, input) in choices(&faults, none, fresh) {
+        for (number, input) in choices(&FAULTS, none, fresh) {
             let answered = compare("order of faults", &input, report);
             report.test("lift, order of faults by hand", same("number", &answered, &number));
         }
@@ -297,13 +310,13 @@ fn fault_order(report: &mut Report) {
 
 pub fn run(report: &mut Report) {
     let mut random = Random::new(3);
-    for _ in 0..6000 {
+    for _ in 0..9000 {
         let input = random_lift(&mut random);
         compare("random", &input, report);
     }
     for result in [MAXIMUM_NODES, MAXIMUM_NODES + 2] {
         let due = if result > MAXIMUM_NODES { 16 } else { 0 };
-        for input in (0..1500).filter_map(|_| lift_to(result, &mut random)) {
+        for input in (0..2300).filter_map(|_| lift_to(result, &mut random)) {
             let answered = compare(&format!("result of {result} nodes"), &input, report);
             report.test("lift, number at the node limit", same("number", &answered, &due));
         }

@@ -7,10 +7,11 @@ mod encode_tests;
 mod faults;
 mod gather_tests;
 mod inputs;
+mod intersection_lifts;
 mod lift_tests;
 mod play_tests;
 
-use inputs::{with_last_group, with_number_after};
+use inputs::{with_intersection, with_last_group, with_number_after};
 use reference::report::Report;
 use std::path::PathBuf;
 use std::process::ExitCode;
@@ -18,7 +19,7 @@ use std::process::ExitCode;
 /// How often each number must have been answered, also about the last group.
 fn least_counts() -> Vec<(String, usize)> {
     let numbers: [(&str, &[usize]); 4] = [
-        ("lift", &[0, 11, 12, 13, 14, 15, 16]),
+        ("lift", &[0, 11, 12, 13, 14, 15, 16, 27]),
         ("gather", &[0, 11, 12, 17, 18, 19]),
         ("encode", &[0, 12, 20]),
         ("play", &[0, 21, 22, 23, 24, 25]),
@@ -28,7 +29,13 @@ fn least_counts() -> Vec<(String, usize)> {
     };
     let lists = [("lift", 12), ("gather", 12), ("encode", 12), ("play, code", 23), ("play, patch", 25)];
     let last_group = lists.map(|(list, number)| [(with_last_group(list), 100), (with_number_after(list, number), 10)]);
-    numbers.into_iter().flat_map(counts).chain(last_group.into_iter().flatten()).collect()
+    let calls: [(&str, &[u32]); 3] =
+        [("lift", &[0, 12, 13, 14, 15, 16, 27]), ("gather", &[0, 12, 17, 18, 19]), ("encode", &[0, 12])];
+    let about_intersection =
+        calls.into_iter().flat_map(|(call, numbers)| numbers.iter().map(move |&number| (call, number)));
+    let about_intersection = about_intersection.map(|(call, number)| (with_intersection(call, number), 20));
+    let last_group = last_group.into_iter().flatten();
+    numbers.into_iter().flat_map(counts).chain(last_group).chain(about_intersection).collect()
 }
 
 fn main() -> ExitCode {
@@ -37,8 +44,9 @@ fn main() -> ExitCode {
         return ExitCode::FAILURE;
     };
     let mut report = Report::new(PathBuf::from(target));
-    let tests: [(&str, fn(&mut Report)); 5] = [
+    let tests: [(&str, fn(&mut Report)); 6] = [
         ("lift", lift_tests::run),
+        ("lift about I", intersection_lifts::run),
         ("gather", gather_tests::run),
         ("compact", compact_tests::run),
         ("encode", encode_tests::run),

@@ -1,6 +1,6 @@
 //! The mean size of gathered trees, beside the most that is allowed. Each function is given as a tree that
-//! is not gathered: every function of few groups that has a gathered tree, beside the least trees of all;
-//! and random functions of 8 groups, beside the library's first builder.
+//! is not gathered: every function of few groups that has a gathered tree, beside the least trees of unions and
+//! differences; and random functions of 8 groups, beside the library's first builder.
 
 use calls::library;
 use reference::calls::TREE_BUFFER;
@@ -10,6 +10,7 @@ use reference::gather::MAXIMUM_GROUPS;
 use reference::random::Random;
 use reference::report::Report;
 use reference::shape::{table_tree, thirds_table};
+use reference::tree::TWO_OPERATORS;
 use std::process::ExitCode;
 
 /// Groups, marks and the bar for the mean.
@@ -42,7 +43,8 @@ fn within(mean: f64, bar: f64) -> Result<(), String> {
 /// Prints the means over all functions; faults if the library's is over the bar.
 fn mean(groups: usize, marked: usize, bar: f64) -> Result<(), String> {
     let names = names(groups);
-    let least = gathered_sizes(groups, marked);
+    let marks: Vec<usize> = (0..marked).collect();
+    let least = gathered_sizes(groups, &marks, TWO_OPERATORS);
     let functions: Vec<usize> = (0..least.len()).filter(|&function| least[function] != UNREACHED).collect();
     let mut total = 0;
     for &function in &functions {

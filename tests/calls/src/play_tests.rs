@@ -1,10 +1,11 @@
-//! `play`: random and coded instructions, the limits, the edges of groups, full patches and the order of faults.
+//! `play`: random and coded instructions, the limits, the kinds, the edges of groups, full patches and the order of
+//! faults.
 
 use crate::faults::{put, Fault};
 use crate::inputs::{count_last_group, numbers, same, same_buffer, tree};
 use calls::library;
 use reference::calls::play_call;
-use reference::coder::{encode, ADD, CUT, LOAD};
+use reference::coder::{encode, ADD, BOTH, CUT, LOAD};
 use reference::player::{LAMP_BYTES, LAST_LAMP, MAXIMUM_PAIRS};
 use reference::random::Random;
 use reference::report::Report;
@@ -47,10 +48,9 @@ fn random_code(count: usize, groups: &[u16], random: &mut Random) -> Vec<u16> {
     let register = |random: &mut Random| random.below(13) as u16;
     let mut code = Vec::new();
     for _ in 0..count {
-        code.extend(match random.below(3) {
-            0 => [LOAD, register(random), random.pick(groups), 0],
-            1 => [ADD, register(random), register(random), register(random)],
-            _ => [CUT, register(random), register(random), register(random)],
+        code.extend(match random.pick(&[LOAD, ADD, CUT, BOTH]) {
+            LOAD => [LOAD, register(random), random.pick(groups), 0],
+            kind => [kind, register(random), register(random), register(random)],
         });
     }
     code
@@ -83,7 +83,7 @@ fn coded_play(random: &mut Random) -> Input {
 fn damaged_play(random: &mut Random) -> Input {
     let mut input = random_play(random);
     for _ in 0..random.between(1, 3) {
-        let small = random.pick(&[0, 1, 3, 4, 12, 13, LAST_LAMP, LAST_LAMP + 1]);
+        let small = random.pick(&[0, 1, 3, 4, 5, 12, 13, LAST_LAMP, LAST_LAMP + 1]);
         let number = if random.one_in(2) { small } else { edge_number(random) };
         let list = if random.one_in(2) { &mut input.code } else { &mut input.patch };
         match list.len() {
@@ -99,39 +99,45 @@ fn damaged_play(random: &mut Random) -> Input {
     input
 }
 
-/// Every fault that 01 lists, each alone and beside each other.
+/// Every fault that 01 lists.
+const FAULTS: [Fault<Input>; 22] = [
+    (21, |input| input.bytes = LAMP_BYTES - 1),
+    (21, |input| input.bytes = 0),
+    (22, |input| input.code.clear()),
+    (22, |input| input.code = [LOAD, 0, 1, 0].repeat(MAXIMUM_NODES + 1)),
+    (22, |input| input.code.truncate(7)),
+    (23, |input| input.code[0] = 0),
+    (23, |input| input.code[0] = 5),
+    (23, |input| input.code[8] = 5),
+    (23, |input| input.code[1] = 13),
+    (23, |input| input.code[2] = 0),
+    (23, |input| input.code[2] = LAST_GROUP + 1),
+    (23, |input| input.code[3] = 1),
+    (23, |input| input.code[10] = 13),
+    (23, |input| input.code[8..].copy_from_slice(&[BOTH, 13, 0, 1])),
+    (23, |input| input.code[8..].copy_from_slice(&[BOTH, 0, 13, 1])),
+    (23, |input| input.code[8..].copy_from_slice(&[BOTH, 0, 0, 13])),
+    (24, |input| input.patch.extend([1, 1, 1])),
+    (24, |input| input.patch = [1, 1].repeat(MAXIMUM_PAIRS + 1)),
+    (25, |input| input.patch[2] = 0),
+    (25, |input| input.patch[2] = LAST_GROUP + 1),
+    (25, |input| input.patch[3] = 0),
+    (25, |input| input.patch[3] = 513),
+];
+
+/// Every fault alone and beside each other.
 fn fault_order(report: &mut Report) {
-    let faults: [Fault<Input>; 18] = [
-        (21, |input| input.bytes = LAMP_BYTES - 1),
-        (21, |input| input.bytes = 0),
-        (22, |input| input.code.clear()),
-        (22, |input| input.code = [LOAD, 0, 1, 0].repeat(MAXIMUM_NODES + 1)),
-        (22, |input| input.code.truncate(7)),
-        (23, |input| input.code[0] = 0),
-        (23, |input| input.code[0] = 4),
-        (23, |input| input.code[1] = 13),
-        (23, |input| input.code[2] = 0),
-        (23, |input| input.code[2] = LAST_GROUP + 1),
-        (23, |input| input.code[3] = 1),
-        (23, |input| input.code[10] = 13),
-        (24, |input| input.patch.extend([1, 1, 1])),
-        (24, |input| input.patch = [1, 1].repeat(MAXIMUM_PAIRS + 1)),
-        (25, |input| input.patch[2] = 0),
-        (25, |input| input.patch[2] = LAST_GROUP + 1),
-        (25, |input| input.patch[3] = 0),
-        (25, |input| input.patch[3] = 513),
-    ];
     let fresh = Input {
         code: vec![LOAD, 0, 1, 0, LOAD, 1, 2, 0, CUT, 0, 0, 1],
         patch: vec![1, 1, 2, 2, 1, 512],
         bytes: LAMP_BYTES,
     };
     // Later faults are put first, so that an earlier one that makes a list anew does not meet them.
-    for first in 0..faults.len() {
-        for second in first..faults.len() {
+    for first in 0..FAULTS.len() {
+        for second in first..FAULTS.len() {
             let mut input = fresh.clone();
-            let later = faults[second..=second].iter().filter(|_| second != first);
-            let number = put(later.chain(&faults[first..=first]).copied(), 0, &mut input);
+            let later = FAULTS[second..=second].iter().filter(|_| second != first);
+            let number = put(later.chain(&FAULTS[first..=first]).copied(), 0, &mut input);
             let (answered, _) = compare("order of faults", &input, report);
             report.test("play, order of faults by hand", same("number", &answered, &number));
         }
@@ -169,6 +175,39 @@ fn lights(name: &str, code: &[u16], patch: &[u16], lit: impl Fn(u16) -> bool, re
     let input = Input { code: code.to_vec(), patch: patch.to_vec(), bytes: LAMP_BYTES };
     let answered = compare(name, &input, report);
     report.test(&format!("play, {name} by hand"), same("number and bytes", &answered, &(0, bytes_of(lit))));
+}
+
+/// Lamps in group 1 alone, in group 2 alone, in both and in neither: what each kind lights of them, in either order of
+/// its operands. No other number is a kind.
+fn kinds(report: &mut Report) {
+    let patch = [1, 1, 1, 64, 2, 64, 2, 65, 1, LAST_LAMP, 2, LAST_LAMP, 3, 2];
+    let code = |kind: u16, first: u16, second: u16| [LOAD, 3, 1, 0, LOAD, 7, 2, 0, kind, 0, first, second];
+    let union: &[u16] = &[1, 64, 65, LAST_LAMP];
+    let both: &[u16] = &[64, LAST_LAMP];
+    let lit: [(u16, u16, u16, &[u16]); 9] = [
+        (ADD, 3, 7, union),
+        (ADD, 7, 3, union),
+        (CUT, 3, 7, &[1]),
+        (CUT, 7, 3, &[65]),
+        (BOTH, 3, 7, both),
+        (BOTH, 7, 3, both),
+        (BOTH, 3, 3, &[1, 64, LAST_LAMP]),
+        (BOTH, 3, 12, &[]),
+        (BOTH, 12, 7, &[]),
+    ];
+    for (kind, first, second, lit) in lit {
+        lights("kinds", &code(kind, first, second), &patch, |lamp| lit.contains(&lamp), report);
+    }
+    for kind in [0, BOTH + 1, BOTH + 2, 256 + BOTH, u16::MAX] {
+        for [target, first, second] in [[0, 0, 0], [0, 3, 7], [12, 12, 12], [0, 1, 0]] {
+            let code = vec![LOAD, 3, 1, 0, kind, target, first, second];
+            let input = Input { code, patch: patch.to_vec(), bytes: LAMP_BYTES };
+            let (answered, lamps) = compare("no kind", &input, report);
+            let unchanged: Vec<u8> = (0..LAMP_BYTES).map(|at| at as u8 ^ 0xa5).collect();
+            let result = same("number", &answered, &23).and_then(|()| same_buffer(&lamps, &unchanged));
+            report.test(&format!("play, kind {kind} by hand"), result);
+        }
+    }
 }
 
 /// Group 5, with lamp 1, and a number: as a group of the code, of the patch, and of both, with lamp 512.
@@ -252,7 +291,7 @@ fn patch_of_one_group(group: u16, report: &mut Report) {
 
 pub fn run(report: &mut Report) {
     let mut random = Random::new(6);
-    for _ in 0..4000 {
+    for _ in 0..5000 {
         compare("random", &random_play(&mut random), report);
         compare("damaged", &damaged_play(&mut random), report);
     }
@@ -260,6 +299,7 @@ pub fn run(report: &mut Report) {
         compare("coded", &coded_play(&mut random), report);
     }
     limits(report);
+    kinds(report);
     GROUP_EDGES.iter().for_each(|&(number, is_group)| group_edge(number, is_group, report));
     patch_of_many_groups(report);
     edge_groups().into_iter().for_each(|group| patch_of_one_group(group, report));

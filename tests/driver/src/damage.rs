@@ -15,13 +15,13 @@ fn flip_bit(mut bytes: Vec<u8>, random: &mut Random) -> Vec<u8> {
 
 fn replace_byte(mut bytes: Vec<u8>, random: &mut Random) -> Vec<u8> {
     let at = random.below(bytes.len());
-    bytes[at] = random.pick(b"GUDLKE\t\n0123456789 \r\0\xff");
+    bytes[at] = random.pick(b"GUDILKE\t\n0123456789 \r\0\xff");
     bytes
 }
 
 fn insert_byte(mut bytes: Vec<u8>, random: &mut Random) -> Vec<u8> {
     let at = random.below(bytes.len() + 1);
-    bytes.insert(at, random.pick(b"GUDLKE\t\n0123456789 \r\0\xff"));
+    bytes.insert(at, random.pick(b"GUDILKE\t\n0123456789 \r\0\xff"));
     bytes
 }
 
@@ -66,8 +66,8 @@ fn insert_line(bytes: Vec<u8>, random: &mut Random) -> Vec<u8> {
         1 => format!("K\t{number}\n"),
         2 => format!("L\t{number}\t{}\n", random.pick(&[0, 1, 99, 100])),
         3 => "E\n".to_string(),
-        4 => random.pick(&["U\n", "D\n"]).to_string(),
-        _ => random.pick(&["\n", "G\n", "K\t\n", "L\t1\n", "E\t\n", "U\t1\n", "G\t01\n"]).to_string(),
+        4 => random.pick(&["U\n", "D\n", "I\n"]).to_string(),
+        _ => random.pick(&["\n", "G\n", "K\t\n", "L\t1\n", "E\t\n", "U\t1\n", "I\t1\n", "G\t01\n"]).to_string(),
     };
     lines.insert(random.below(lines.len() + 1), line.into_bytes());
     lines.concat()

@@ -6,17 +6,20 @@ use reference::gather::{gather, holder};
 use reference::lift::lift;
 use reference::random::Random;
 use reference::refusal::NOT_GATHERABLE;
-use reference::shape::{difference, gatherable_table, join, levels_of_nodes, some_groups, table_tree, union, Shape};
+use reference::shape::{difference, gatherable_table, intersection, join, levels_of_nodes, some_groups};
+use reference::shape::{table_tree, union, union_of_groups, Operators, Shape};
 use reference::sheet::{Sheet, SHEET_NODES};
-use reference::tree::{groups, Node, Nodes, Operator, DIFFERENCE, LAST_GROUP, UNION};
+use reference::tree::{groups, Node, Nodes, Operator};
+use reference::tree::{DIFFERENCE, INTERSECTION, LAST_GROUP, UNION};
 
-/// A kind of sheet and how many of a hundred are of it.
+/// A kind of sheet and how many of all the shares are of it.
 type Kind = (&'static str, usize, fn(&mut Random) -> Vec<u8>);
 
-pub const KINDS: [Kind; 15] = [
+pub const KINDS: [Kind; 16] = [
     ("plain", 5, |random| plain(random).print()),
     ("lifted", 11, |random| lifted(random).print()),
     ("lifted near the root", 7, |random| lifted_near_root(random).print()),
+    ("lifted near the root about I", 10, |random| lifted_about_intersections(random).print()),
     ("nested differences lifted", 8, |random| nested(random).print()),
     ("marked", 6, |random| marked(random).print()),
     ("mostly not gatherable", 8, |random| not_gatherable(random).print()),
@@ -31,18 +34,23 @@ pub const KINDS: [Kind; 15] = [
     ("noise", 2, noise),
 ];
 
+/// The sum of the shares.
+pub fn shares() -> usize {
+    KINDS.iter().map(|(_, share, _)| share).sum()
+}
+
 /// The sheet of a number: its kind and its bytes.
 pub fn random_sheet(number: u64, seed: u64) -> (&'static str, Vec<u8>) {
     let mut random = Random::new(seed.wrapping_mul(1_000_003).wrapping_add(number));
     random.next();
-    let mut choice = number as usize % 100;
+    let mut choice = number as usize % shares();
     for (name, share, make) in KINDS {
         if choice < share {
             return (name, make(&mut random));
         }
         choice -= share;
     }
-    unreachable!("the shares make a hundred")
+    unreachable!("the choice is below the sum of the shares")
 }
 
 fn unmarked(tree: Vec<u16>) -> Sheet {
@@ -71,7 +79,7 @@ pub fn plain(random: &mut Random) -> Sheet {
     let count = random.between(1, 8);
     let groups = some_groups(count, random);
     let leaves = leaves(random);
-    unmarked(Shape::any(random).tree(leaves, &groups, random))
+    unmarked(Shape::any(Operators::any(random), random).tree(leaves, &groups, random))
 }
 
 /// A lift that is likely to be done; now and then any position and levels.
@@ -99,6 +107,14 @@ fn lift_near_root(tree: &[u16], random: &mut Random) -> (usize, usize) {
     (random.pick(&near_root), 1)
 }
 
+/// A lift by one or two levels from level 2 to 5, at times by one too many.
+fn lift_by_two(tree: &[u16], random: &mut Random) -> (usize, usize) {
+    let levels = levels_of_nodes(tree);
+    let near_root: Vec<usize> = (0..tree.len()).filter(|&position| matches!(levels[position], 2..=5)).collect();
+    let position = random.pick(&near_root);
+    (position, if levels[position] > 2 || random.one_in(8) { random.between(1, 2) } else { 1 })
+}
+
 /// How a lift's position and levels are chosen.
 type Choice = fn(&[u16], &mut Random) -> (usize, usize);
 
@@ -121,13 +137,33 @@ pub fn lifted(random: &mut Random) -> Sheet {
     sheet
 }
 
+/// The same shape, in one of three cases with an `I` for one or two of eight operators.
+fn with_some_intersections(shape: Shape, random: &mut Random) -> Shape {
+    match Operators::any(random) {
+        Operators::WithoutIntersection => shape,
+        Operators::All => shape.with_intersections(random.between(1, 2)),
+    }
+}
+
 pub fn lifted_near_root(random: &mut Random) -> Sheet {
     let count = random.between(1, 8);
     let groups = some_groups(count, random);
     let leaves = random.between(4, 16);
-    let tree = Shape::mixed().tree(leaves, &groups, random);
+    let tree = with_some_intersections(Shape::mixed(), random).tree(leaves, &groups, random);
     let mut sheet = unmarked(tree.clone());
     add_lifts(&mut sheet, tree, 8, lift_near_root, random);
+    sheet
+}
+
+/// Lifts near the root in a tree in which two or three of eight operators are an `I`.
+pub fn lifted_about_intersections(random: &mut Random) -> Sheet {
+    let count = random.between(1, 8);
+    let groups = some_groups(count, random);
+    let leaves = random.between(5, 24);
+    let intersections = random.between(2, 3);
+    let tree = Shape::mixed().with_intersections(intersections).tree(leaves, &groups, random);
+    let mut sheet = unmarked(tree.clone());
+    add_lifts(&mut sheet, tree, 16, lift_by_two, random);
     sheet
 }
 
@@ -135,7 +171,7 @@ pub fn nested(random: &mut Random) -> Sheet {
     let count = random.between(2, 8);
     let groups = some_groups(count, random);
     let leaves = random.between(4, 60);
-    let tree = Shape::nested_differences().tree(leaves, &groups, random);
+    let tree = with_some_intersections(Shape::nested_differences(), random).tree(leaves, &groups, random);
     let mut sheet = unmarked(tree.clone());
     let count = random.between(1, 6);
     add_lifts(&mut sheet, tree, count, some_lift, random);
@@ -151,11 +187,12 @@ pub fn marked(random: &mut Random) -> Sheet {
 /// Few marks among many groups, mostly such that no tree gathers them.
 pub fn not_gatherable(random: &mut Random) -> Sheet {
     let mut sheet = Sheet::default();
+    let operators = Operators::any(random);
     for _ in 0..8 {
         let count = random.between(2, 8);
         let groups = some_groups(count, random);
         let leaves = random.between(count, 30);
-        sheet.tree = Shape::any(random).tree(leaves, &groups, random);
+        sheet.tree = Shape::any(operators, random).tree(leaves, &groups, random);
         mark_some(&mut sheet, random);
         sheet.marks.truncate(3);
         if gather(&sheet.tree, &sheet.marks) == Err(NOT_GATHERABLE) {
@@ -169,7 +206,7 @@ pub fn few_groups(random: &mut Random) -> Sheet {
     let count = random.between(2, 3);
     let groups = some_groups(count, random);
     let leaves = random.between(2, 12);
-    let mut sheet = unmarked(Shape::any(random).tree(leaves, &groups, random));
+    let mut sheet = unmarked(Shape::any(Operators::any(random), random).tree(leaves, &groups, random));
     mark_some(&mut sheet, random);
     sheet
 }
@@ -183,11 +220,12 @@ pub fn lifted_and_marked(random: &mut Random) -> Sheet {
 /// A holder over marked groups inside frames of unmarked ones.
 pub fn gathered_tree(marked: &[u16], others: &[u16], random: &mut Random) -> Vec<u16> {
     let leaves = random.between(1, 5);
-    let mut tree = Shape::any(random).tree(leaves, marked, random);
+    let operators = Operators::any(random);
+    let mut tree = Shape::any(operators, random).tree(leaves, marked, random);
     for _ in 0..random.between(1, 5) {
         let leaves = random.between(1, 4);
-        let other = Shape::any(random).tree(leaves, others, random);
-        let operator = random.pick(&[Operator::Union, Operator::Difference]);
+        let other = Shape::any(operators, random).tree(leaves, others, random);
+        let operator = operators.pick(random);
         tree = if random.one_in(2) { join(&tree, &other, operator) } else { join(&other, &tree, operator) };
     }
     tree
@@ -203,10 +241,23 @@ pub fn gathered(random: &mut Random) -> Sheet {
     Sheet { tree, marks, ..Sheet::default() }
 }
 
+/// An `I` of two parts written differently: by its operands' order, or without `I`.
+fn rewritten_intersection(x: &[u16], y: &[u16], random: &mut Random) -> Vec<u16> {
+    match random.below(4) {
+        0 => intersection(y, x),
+        1 => difference(x, &difference(x, y)),
+        2 => difference(y, &difference(y, x)),
+        _ => intersection(x, y),
+    }
+}
+
 /// An equivalent tree, written differently.
 fn rewritten(nodes: &Nodes, node: usize, random: &mut Random) -> Vec<u16> {
     let Node::Branch { operator, left, right } = nodes.node(node) else { return nodes.postfix(node) };
     let (x, y) = (rewritten(nodes, left, random), rewritten(nodes, right, random));
+    if operator == Operator::Intersection {
+        return rewritten_intersection(&x, &y, random);
+    }
     let operands = |node: usize, wanted: Operator| match nodes.node(node) {
         Node::Branch { operator, left, right } if operator == wanted => {
             Some((nodes.postfix(left), nodes.postfix(right)))
@@ -245,13 +296,17 @@ pub fn distorted(random: &mut Random) -> Sheet {
     sheet
 }
 
-/// Any function that a gathered tree has, given by its table.
+/// Any function that a gathered tree has, given by its table; at times with an `I` that adds nothing.
 pub fn gatherable(random: &mut Random) -> Sheet {
     loop {
         let count = random.between(2, 6);
         let marked = random.between(1, count - 1);
         let groups = some_groups(count, random);
         let tree = table_tree(&gatherable_table(count, marked, random), &groups);
+        let tree = match Operators::any(random) {
+            Operators::WithoutIntersection => tree,
+            Operators::All => intersection(&tree, &union_of_groups(&groups)),
+        };
         if tree.len() <= SHEET_NODES {
             return Sheet { tree, lifts: Vec::new(), marks: groups[..marked].to_vec() };
         }
@@ -273,7 +328,8 @@ pub fn grown(random: &mut Random) -> Sheet {
 /// operands, a mark that is not in the tree, a mark twice, or the number after the last group.
 pub fn one_fault(random: &mut Random) -> Vec<u8> {
     let groups = some_groups(9, random);
-    let mut sheet = unmarked(Shape::any(random).tree(SHEET_NODES.div_ceil(2), &groups[..8], random));
+    let shape = Shape::any(Operators::any(random), random);
+    let mut sheet = unmarked(shape.tree(SHEET_NODES.div_ceil(2), &groups[..8], random));
     mark_some(&mut sheet, random);
     match random.below(7) {
         0 => {
@@ -287,7 +343,7 @@ pub fn one_fault(random: &mut Random) -> Vec<u8> {
         _ => sheet.marks.push(sheet.marks[0]),
     }
     if random.one_in(2) {
-        sheet.tree.push(random.pick(&[UNION, DIFFERENCE]));
+        sheet.tree.push(random.pick(&[UNION, DIFFERENCE, INTERSECTION]));
     }
     sheet.print()
 }
@@ -300,7 +356,7 @@ pub fn whole(random: &mut Random) -> Vec<u8> {
 
 /// Bytes that sheets are made of, in no order, and at times any bytes.
 pub fn noise(random: &mut Random) -> Vec<u8> {
-    let signs = b"GUDLKE\t\n\t\n\t\n0123456789";
+    let signs = b"GUDILKE\t\n\t\n\t\n0123456789";
     let any = random.one_in(3);
     let count = random.below(60);
     (0..count).map(|_| if any { random.next() as u8 } else { random.pick(signs) }).collect()

@@ -2,7 +2,7 @@
 
 use reference::lift::lift;
 use reference::random::Random;
-use reference::shape::{difference, some_groups, union, Shape};
+use reference::shape::{difference, some_groups, union, Operators, Shape};
 use reference::sheet::{Sheet, SHEET_NODES};
 use reference::tree::MAXIMUM_NODES;
 
@@ -42,7 +42,7 @@ impl Growth {
     /// ((A−B) U C)−D or ((B−A) U C)−D, A lifted: D, a tree of `leaves` leaves, is written twice.
     fn double_last(&mut self, leaves: usize, groups: &[u16], random: &mut Random) {
         let [a, b] = [(); 2].map(|()| [random.pick(groups)]);
-        let d = Shape::any(random).tree(leaves, groups, random);
+        let d = Shape::any(Operators::any(random), random).tree(leaves, groups, random);
         let layer =
             |first: &[u16], second: &[u16], tree: &[u16]| difference(&union(&difference(first, second), tree), &d);
         if random.one_in(2) {
@@ -78,7 +78,7 @@ pub fn grown_to_limit(random: &mut Random) -> (Sheet, Vec<u16>) {
     let groups = some_groups(8, random);
     loop {
         let leaves = random.between(1, 52);
-        let tree = Shape::any(random).tree(leaves, &groups, random);
+        let tree = Shape::any(Operators::any(random), random).tree(leaves, &groups, random);
         let mut growth = Growth::new(tree);
         while 3 * growth.current.len() < result {
             growth.triple(&groups, random);

@@ -3,7 +3,7 @@
 use crate::cases::{text, Case, Expected};
 use crate::growth::grown_to_many_registers;
 use reference::random::Random;
-use reference::shape::{difference, levels_of_nodes, union, Shape, GROUP_EDGES};
+use reference::shape::{difference, intersection, levels_of_nodes, union, Operators, Shape, GROUP_EDGES};
 use reference::sheet::{Sheet, SHEET_BYTES, SHEET_NODES};
 use reference::tree::LAST_GROUP;
 
@@ -37,6 +37,8 @@ fn node_limit() -> Vec<Case> {
         accepted("253 nodes", (tree_lines(253) + "E\n").into_bytes()),
         accepted("255 nodes", (tree_lines(255) + "E\n").into_bytes()),
         refused("257 nodes", (tree_lines(257) + "E\n").into_bytes(), 5, 256),
+        accepted("255 nodes, all operators I", (tree_lines(255).replace('U', "I") + "E\n").into_bytes()),
+        refused("257 nodes, all operators I", (tree_lines(257).replace('U', "I") + "E\n").into_bytes(), 5, 256),
         refused("256 groups", group_lines(256).into_bytes(), 5, 256),
         refused("1,023 nodes, which 01 allowed", (tree_lines(1023) + "E\n").into_bytes(), 5, 256),
     ]
@@ -53,8 +55,10 @@ fn line_after_most_nodes() -> Vec<Case> {
         fault("256th line G, three trees", &three, "G\t1", 5),
         fault("256th line U with one tree: 4 before 5", &one, "U", 4),
         fault("256th line D with one tree: 4 before 5", &one, "D", 4),
+        fault("256th line I with one tree: 4 before 5", &one, "I", 4),
         fault("256th line U", &three, "U", 5),
         fault("256th line D", &three, "D", 5),
+        fault("256th line I", &three, "I", 5),
         fault("256th line a ninth group: 5 before 6", &one, "G\t9", 5),
         fault("256th line of no form: 2 before 5", &one, "G\t0", 2),
         accepted("256th line L", sheet(&one, "L\t0\t1")),
@@ -161,7 +165,8 @@ fn deep_lifts() -> Vec<Case> {
     let mut cases = Vec::new();
     for levels in [1, 98, 99] {
         for _ in 0..20 {
-            let tree = Shape::any(&mut random).tree(SHEET_NODES.div_ceil(2), &groups, &mut random);
+            let operators = Operators::any(&mut random);
+            let tree = Shape::any(operators, &mut random).tree(SHEET_NODES.div_ceil(2), &groups, &mut random);
             let levels_of = levels_of_nodes(&tree);
             let deepest = (0..tree.len()).max_by_key(|&position| levels_of[position]).unwrap_or(0);
             let lifts = vec![(deepest, levels), (deepest, levels), (SHEET_NODES - 1, 1), (SHEET_NODES, 1), (8190, 99)];
@@ -176,7 +181,7 @@ fn level_limit() -> Vec<Case> {
     let mut cases = Vec::new();
     for levels in [1, 2, 98, 99] {
         for level in [levels, levels + 1] {
-            for join in [union, difference] {
+            for join in [union, difference, intersection] {
                 let tree = (0..level).fold(vec![1], |tree, _| join(&tree, &[2]));
                 let sheet = Sheet { tree, lifts: vec![(0, levels)], marks: vec![] };
                 cases.push(accepted(&format!("{levels} levels from level {level}"), sheet.print()));

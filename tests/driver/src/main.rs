@@ -1,24 +1,61 @@
 //! Tries a key program on fixed and random sheets and checks every key.
 //!
-//! driver PROGRAM VECTORS TARGET [SHEETS [SEED]]
+//! driver PROGRAM VECTORS EARLIER TARGET [SHEETS [SEED]]
 //!   PROGRAM  the key program; `--self` stands for the reference's own
 //!   VECTORS  a folder of NAME.sheet with NAME.key
+//!   EARLIER  another, of sheets from before request 6
 //!   TARGET   a folder to which failing sheets and their keys are saved
 
 use driver::{cases, generate, limits, program, self_tests, sheets, vectors};
-use reference::key_check::Trait;
+use reference::check::ensure;
+use reference::key_traits::{Marks, Trait};
 use reference::report::Report;
+use reference::tree::{Operator, THREE_OPERATORS, TWO_OPERATORS};
 use std::path::PathBuf;
 use std::process::ExitCode;
 
-const SHEETS: usize = 21_000;
+const SHEETS: usize = 36_300;
 const SEED: u64 = 1987;
+
+/// How many of a thousand sheets must show each of these: `I` in each place, about the marks and above a lifted node.
+fn least_intersections() -> Vec<(Trait, usize)> {
+    use Trait::*;
+    let mut least = vec![
+        (NoIntersection, 450),
+        (IntersectionAnd(Marks::None), 100),
+        (IntersectionAnd(Marks::GatheredAlready), 30),
+        (IntersectionAnd(Marks::Gatherable), 40),
+        (IntersectionAnd(Marks::NotGatherable), 15),
+        (HolderBelowIntersection, 10),
+        (HolderWithIntersection, 20),
+        (LiftRefused(27), 400),
+    ];
+    for is_right in [false, true] {
+        let operands = [None].into_iter().chain(THREE_OPERATORS.iter().copied().map(Some));
+        least.extend(operands.map(|below| (Operand(Operator::Intersection, is_right, below), 60)));
+        least.extend(TWO_OPERATORS.iter().map(|&above| (Operand(above, is_right, Some(Operator::Intersection)), 60)));
+    }
+    for letter in ['i', 'j'] {
+        for level in 2..=4 {
+            least.push((IntersectionAsParent(level, letter), 30));
+            least.extend(['a', 'b', 'c', 'd'].map(|parent| (IntersectionAsGrandparent(level, parent, letter), 5)));
+        }
+        least.extend((5..=9).flat_map(|state| [3, 4].map(|level| (IntersectionAboveT(level, state, letter), 1))));
+        // In states 1 to 4 the step is done, and the next one of the same lift is refused.
+        for state in 1..=4 {
+            least.extend([StepAtLevel3(state, letter), StepDeeper(state, letter)].map(|done| (done, 1)));
+            least.push((IntersectionAtNextStep(state, letter), 2));
+        }
+    }
+    least
+}
 
 /// How often each category must be met when `sheets` random sheets are tried.
 fn least_counts(sheets: usize) -> Vec<(String, usize)> {
+    let rounds = sheets / generate::shares();
     let per_thousand = |trait_: Trait, count: usize| (format!("{trait_:?}"), count * sheets / 1000);
     let mut least: Vec<(String, usize)> =
-        generate::KINDS.iter().map(|(name, share, _)| (format!("sheets: {name}"), share * sheets / 100)).collect();
+        generate::KINDS.iter().map(|(name, share, _)| (format!("sheets: {name}"), share * rounds)).collect();
     least.push((format!("{:?}", Trait::Refused(1)), 4));
     least.extend((2..=10).map(|number| per_thousand(Trait::Refused(number), 3)));
     least.extend((13..=16).map(|number| per_thousand(Trait::LiftRefused(number), 5)));
@@ -29,10 +66,10 @@ fn least_counts(sheets: usize) -> Vec<(String, usize)> {
         per_thousand(Trait::FiveDigitMark, 50),
         per_thousand(Trait::LastGroup, 20),
         per_thousand(Trait::MostNodes, 5),
-        per_thousand(Trait::NoMarks, 100),
-        per_thousand(Trait::GatheredAlready, 50),
-        per_thousand(Trait::Gatherable, 100),
-        per_thousand(Trait::NotGatherable, 50),
+        per_thousand(Trait::Marked(Marks::None), 100),
+        per_thousand(Trait::Marked(Marks::GatheredAlready), 50),
+        per_thousand(Trait::Marked(Marks::Gatherable), 100),
+        per_thousand(Trait::Marked(Marks::NotGatherable), 50),
         per_thousand(Trait::LiftDone, 500),
         per_thousand(Trait::LiftedTo8191Nodes, 2),
     ]);
@@ -45,22 +82,27 @@ fn least_counts(sheets: usize) -> Vec<(String, usize)> {
             least.push(per_thousand(Trait::StepFollowed(state, input), 3));
         }
     }
+    least.extend(least_intersections().into_iter().map(|(trait_, count)| per_thousand(trait_, count)));
     least
 }
 
 fn run(arguments: &[String]) -> Result<bool, String> {
-    let [program, vectors, target, rest @ ..] = arguments else {
-        return Err("usage: driver PROGRAM VECTORS TARGET [SHEETS [SEED]]".to_string());
+    let [program, vectors, earlier, target, rest @ ..] = arguments else {
+        return Err("usage: driver PROGRAM VECTORS EARLIER TARGET [SHEETS [SEED]]".to_string());
     };
     let number = |at: usize, default: u64| rest.get(at).map_or(Ok(default), |text| text.parse::<u64>());
     let random_sheets = number(0, SHEETS as u64).map_err(|error| error.to_string())? as usize;
     let seed = number(1, SEED).map_err(|error| error.to_string())?;
     let program = program::named(program, "reference_key")?;
 
-    let mut cases = vectors::sheets(vectors.as_ref()).map_err(|error| format!("{vectors}: {error}"))?;
+    let folder = |folder: &String| vectors::sheets(folder.as_ref()).map_err(|error| format!("{folder}: {error}"));
+    let mut cases = folder(vectors)?;
+    cases.extend(folder(earlier)?);
     cases.extend(cases::cases());
     cases.extend(limits::limits());
     let mut report = Report::new(PathBuf::from(target));
+    let before_both = vectors::before_both(earlier.as_ref()).map_err(|error| format!("{earlier}: {error}"))?;
+    report.test("the earlier vectors have nothing of request 6", ensure(before_both, "one of them has"));
     self_tests::run(&cases, &mut report);
     let subject = sheets::Subject { program: &program, cases: &cases, random_sheets, seed };
     let mut report = subject.try_all(report);

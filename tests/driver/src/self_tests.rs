@@ -2,15 +2,18 @@
 
 use crate::cases::{Case, Expected};
 use reference::check::ensure;
-use reference::closure::{gathered_sizes, tree_sizes, UNREACHED};
+use reference::closure::{gathered_sizes, tree_sizes, Sizes, UNREACHED};
 use reference::gather::columns_agree;
 use reference::key::key_bytes;
 use reference::report::Report;
+use reference::tree::{THREE_OPERATORS, TWO_OPERATORS};
 
 const FEW: usize = 3;
 
-fn rows(function: usize, groups: usize) -> Vec<bool> {
-    (0..1 << groups).map(|row| function >> row & 1 == 1).collect()
+/// The function's rows when its groups come in this order.
+fn rows(function: usize, order: &[usize]) -> Vec<bool> {
+    let row_of = |row: usize| (0..order.len()).map(|at| (row >> at & 1) << order[at]).sum::<usize>();
+    (0..1 << order.len()).map(|row| function >> row_of(row) & 1 == 1).collect()
 }
 
 /// The function with one more group, on which it does not depend.
@@ -20,14 +23,16 @@ fn with_outside_group(function: usize, groups: usize) -> usize {
 
 /// For every function that a tree of so many groups has: the closure, the closure with a group
 /// outside the tree, and the columns say the same.
-fn verdicts_agree(groups: usize, marked: usize) -> Result<(), String> {
-    let trees = tree_sizes(groups, 0..groups);
-    let gathered = gathered_sizes(groups, marked);
-    let gathered_outside = gathered_sizes(groups + 1, marked);
+fn verdicts_agree(groups: usize, marked: &[usize]) -> Result<(), String> {
+    let trees = tree_sizes(groups, &(0..groups).collect::<Vec<usize>>(), THREE_OPERATORS);
+    let gathered = gathered_sizes(groups, marked, THREE_OPERATORS);
+    let gathered_outside = gathered_sizes(groups + 1, marked, THREE_OPERATORS);
+    let others = (0..groups).filter(|group| !marked.contains(group));
+    let order: Vec<usize> = marked.iter().copied().chain(others).collect();
     for function in (0..trees.len()).filter(|&function| trees[function] != UNREACHED) {
         let closure = gathered[function] != UNREACHED;
         let outside = gathered_outside[with_outside_group(function, groups)] != UNREACHED;
-        let columns = columns_agree(&rows(function, groups), marked);
+        let columns = columns_agree(&rows(function, &order), marked.len());
         if closure != columns || closure != outside {
             return Err(format!(
                 "function {function:b}: closure {closure}, with an outside group {outside}, columns {columns}"
@@ -37,13 +42,33 @@ fn verdicts_agree(groups: usize, marked: usize) -> Result<(), String> {
     Ok(())
 }
 
-/// Trees have exactly the functions that are false where all groups are empty.
+/// Trees of three operators reach a function exactly if trees of two reach it.
+fn same_functions(two: &Sizes, three: &Sizes) -> Result<(), String> {
+    match (0..two.len()).find(|&function| (two[function] == UNREACHED) != (three[function] == UNREACHED)) {
+        None => Ok(()),
+        Some(function) => Err(format!("function {function:b} is reached with I or without, but not both")),
+    }
+}
+
+/// The verdict is unchanged: gathered trees with `I` have no function that those without it lack.
+fn verdict_unchanged(groups: usize, marked: &[usize]) -> Result<(), String> {
+    same_functions(&gathered_sizes(groups, marked, TWO_OPERATORS), &gathered_sizes(groups, marked, THREE_OPERATORS))
+}
+
+/// Trees have exactly the functions that are false where all groups are empty, with `I` and without.
 fn functions_of_trees(groups: usize) -> Result<(), String> {
-    let sizes = tree_sizes(groups, 0..groups);
-    match (0..sizes.len()).find(|&function| (sizes[function] != UNREACHED) != (function & 1 == 0)) {
+    let all: Vec<usize> = (0..groups).collect();
+    let [two, three] = [TWO_OPERATORS, THREE_OPERATORS].map(|operators| tree_sizes(groups, &all, operators));
+    same_functions(&two, &three)?;
+    match (0..two.len()).find(|&function| (two[function] != UNREACHED) != (function & 1 == 0)) {
         None => Ok(()),
         Some(function) => Err(format!("function {function:b}")),
     }
+}
+
+/// Every choice of one or more of so many groups.
+fn choices(groups: usize) -> impl Iterator<Item = Vec<usize>> {
+    (1..1_usize << groups).map(move |choice| (0..groups).filter(|group| choice >> group & 1 == 1).collect())
 }
 
 pub fn run(cases: &[Case], report: &mut Report) {
@@ -55,8 +80,10 @@ pub fn run(cases: &[Case], report: &mut Report) {
     }
     for groups in 1..=FEW {
         report.test(&format!("functions of trees of {groups} groups"), functions_of_trees(groups));
-        for marked in 1..groups {
-            report.test(&format!("verdicts, {marked} of {groups} groups marked"), verdicts_agree(groups, marked));
+        for marked in choices(groups) {
+            let name = format!("{marked:?} of {groups} groups marked");
+            report.test(&format!("verdicts, {name}"), verdicts_agree(groups, &marked));
+            report.test(&format!("verdicts with I and without, {name}"), verdict_unchanged(groups, &marked));
         }
     }
 }

@@ -5,7 +5,8 @@ use crate::generate::random_sheet;
 use crate::program::Watched;
 use crate::workers::share_out;
 use reference::check::ensure;
-use reference::key_check::{sheet_key, Trait};
+use reference::key_check::sheet_key;
+use reference::key_traits::{Marks, Trait};
 use reference::random::Random;
 use reference::report::Report;
 use std::path::Path;
@@ -24,7 +25,7 @@ pub struct Subject<'a> {
 fn meets(expected: &Expected, key: &[u8], traits: &[Trait]) -> Result<(), String> {
     let met = match expected {
         Expected::Key(bytes) => key == bytes,
-        Expected::Gathered => traits.contains(&Trait::Gatherable),
+        Expected::Gathered => traits.contains(&Trait::Marked(Marks::Gatherable)),
         Expected::Reference => true,
     };
     ensure(met, "the key is not the one given for this sheet")

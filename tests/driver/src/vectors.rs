@@ -1,4 +1,4 @@
-//! The files of a folder and their one right answer.
+//! The files of folders and their one right answer.
 
 use crate::cases::{Case, Expected};
 use crate::marks::pair::{File, Pair};
@@ -15,6 +15,17 @@ fn paths(folder: &Path, extension: &str) -> Result<Vec<PathBuf>> {
         return Err(Error::other(format!("the folder of vectors holds no {extension}")));
     }
     Ok(paths)
+}
+
+/// Whether no file of a folder has anything of request 6: the line `I`, a key's line BOTH or a lift refused with 27.
+pub fn before_both(folder: &Path) -> Result<bool> {
+    let newer = |line: &[u8]| line == b"I" || line.starts_with(b"BOTH") || line.starts_with(b"LIFT\t27");
+    for entry in std::fs::read_dir(folder)? {
+        if read(entry?.path())?.split(|&byte| byte == b'\n').any(newer) {
+            return Ok(false);
+        }
+    }
+    Ok(true)
 }
 
 fn name(path: &Path) -> String {

@@ -1,7 +1,7 @@
 //! Checks of a gathering's answer, where 01 leaves the gathered tree free.
 
 use crate::gather::{gather, holder, numbered, ROWS};
-use crate::tree::{groups, select, Nodes};
+use crate::tree::{groups, select, without_intersection, Nodes};
 
 /// A tree's table: bit r of the 256 is its value in row r.
 type Table = [u64; ROWS / 64];
@@ -29,13 +29,15 @@ pub fn ensure(holds: bool, fault: &str) -> Result<(), String> {
     }
 }
 
-/// What 01 asks of a gathered tree that is free.
+/// What 01 asks of a gathered tree that is free; of a tree without `I` it has none either (the library's promise).
 pub fn gathered_tree(given: &[u16], marks: &[u16], result: &[u16], position: usize) -> Result<(), String> {
     let nodes = Nodes::parse(result).ok_or("the gathered list is not a tree of 1 to 8,191 nodes")?;
     let allowed = groups(given);
     ensure(groups(result).iter().all(|group| allowed.contains(group)), "a group that is not in the given tree")?;
     let holder = holder(&nodes, marks).ok_or("the tree is not gathered")?;
     ensure(holder == position, &format!("the holder is at {holder}, not at {position}"))?;
+    let added = without_intersection(given) && !without_intersection(result);
+    ensure(!added, "the gathered tree of one without I has an I")?;
     ensure(table(given, &allowed) == table(result, &allowed), "the gathered tree is not equivalent")
 }
 

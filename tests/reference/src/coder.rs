@@ -6,6 +6,7 @@ use crate::tree::{Node, Nodes, Operator};
 pub const LOAD: u16 = 1;
 pub const ADD: u16 = 2;
 pub const CUT: u16 = 3;
+pub const BOTH: u16 = 4;
 pub const REGISTERS: u16 = 13;
 pub const INSTRUCTION_NUMBERS: usize = 4;
 
@@ -39,6 +40,7 @@ impl Coder<'_> {
                 let kind = match operator {
                     Operator::Union => ADD,
                     Operator::Difference => CUT,
+                    Operator::Intersection => BOTH,
                 };
                 if self.needs[right] > self.needs[left] {
                     self.code(right, target);

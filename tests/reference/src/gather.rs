@@ -1,8 +1,8 @@
-//! The gathering (01, "The gathering").
+//! The gathering (01, "The gathering"). The trees that are built have unions and differences alone.
 
 use crate::closure::{gathered_sizes, UNREACHED};
 use crate::refusal::*;
-use crate::tree::{groups, select, Node, Nodes, DIFFERENCE, LAST_GROUP, UNION};
+use crate::tree::{groups, select, Node, Nodes, DIFFERENCE, LAST_GROUP, THREE_OPERATORS, UNION};
 
 pub const MAXIMUM_GROUPS: usize = 8;
 pub const ROWS: usize = 1 << MAXIMUM_GROUPS;
@@ -60,7 +60,8 @@ pub fn columns_agree(rows: &[bool], marked: usize) -> bool {
 fn closure_has(rows: &[bool], marked: usize) -> bool {
     let groups = rows.len().trailing_zeros() as usize;
     let function = (0..rows.len()).filter(|&row| rows[row]).map(|row| 1 << row).sum::<usize>();
-    gathered_sizes(groups, marked)[function] != UNREACHED
+    let marked: Vec<usize> = (0..marked).collect();
+    gathered_sizes(groups, &marked, THREE_OPERATORS)[function] != UNREACHED
 }
 
 /// A tree, or none for the set that is always empty.

@@ -1,9 +1,9 @@
 //! The key (01, "The key program"): made from a sheet, printed, and read back.
 
-use crate::coder::{encode, run, ADD, CUT, INSTRUCTION_NUMBERS, LOAD};
+use crate::coder::{encode, run, ADD, BOTH, CUT, INSTRUCTION_NUMBERS, LOAD};
 use crate::gather::gather;
 use crate::lift::{lift_noting_steps, Step};
-use crate::refusal::NO_STEP;
+use crate::refusal::{Refusal, INTERSECTION_ABOVE, NO_STEP};
 use crate::sheet::{read, Fault, Sheet};
 
 #[derive(Debug, Clone, Copy, PartialEq, Eq)]
@@ -31,8 +31,15 @@ pub struct Lifts {
     pub steps: Vec<Step>,
     /// Those of these steps that another of the same lift follows, in the state that they lead to.
     pub followed_steps: Vec<Step>,
-    /// The steps that were refused with 15.
-    pub refused_steps: Vec<Step>,
+    /// The steps that were refused with 15 or 27.
+    pub refused_steps: Vec<RefusedStep>,
+}
+
+/// A step that was refused, and the one before it of the same lift, if it was not the first.
+pub struct RefusedStep {
+    pub number: Refusal,
+    pub step: Step,
+    pub before: Option<Step>,
 }
 
 pub fn lifts(sheet: &Sheet) -> Lifts {
@@ -47,7 +54,10 @@ pub fn lifts(sheet: &Sheet) -> Lifts {
                 (0, lifted.position, lifted.looks)
             }
             Err(number) => {
-                lifts.refused_steps.extend(steps.pop().filter(|_| number == NO_STEP));
+                if [NO_STEP, INTERSECTION_ABOVE].contains(&number) {
+                    let step = steps.pop().expect("a step");
+                    lifts.refused_steps.push(RefusedStep { number, step, before: steps.pop() });
+                }
                 (usize::from(number), position, 0)
             }
         });
@@ -111,7 +121,8 @@ impl Key {
             let (name, count) = match instruction[0] {
                 LOAD => ("LOAD", 2),
                 ADD => ("ADD", 3),
-                _ => ("CUT", 3),
+                CUT => ("CUT", 3),
+                _ => ("BOTH", 3),
             };
             let numbers: Vec<usize> = instruction[1..=count].iter().map(|&number| usize::from(number)).collect();
             line(name, &numbers, &mut bytes);
@@ -139,6 +150,7 @@ impl Key {
             ("LOAD", &[target, group]) => self.add_instruction([LOAD.into(), target, group, 0])?,
             ("ADD", &[target, left, right]) => self.add_instruction([ADD.into(), target, left, right])?,
             ("CUT", &[target, left, right]) => self.add_instruction([CUT.into(), target, left, right])?,
+            ("BOTH", &[target, left, right]) => self.add_instruction([BOTH.into(), target, left, right])?,
             _ => return None,
         }
         Some(())

@@ -1,45 +1,15 @@
 //! Checks of a printed key: byte for byte where 01 fixes it, by what 01 asks where it is free.
 
 use crate::check::{ensure, gathered_tree};
-use crate::coder::{encode, run, ADD, CUT, INSTRUCTION_NUMBERS, LOAD, REGISTERS};
+use crate::coder::{encode, run, ADD, BOTH, CUT, INSTRUCTION_NUMBERS, LOAD, REGISTERS};
 use crate::gather::holder;
-use crate::key::{key, lifts, Held, Key, Lifts};
-use crate::lift::Step;
+use crate::key::{key, lifts, Held, Key};
+use crate::key_traits::{group_traits, intersection_traits, lift_traits, marks, refused_traits, Marks, Trait};
 use crate::player::{index, lamp_bytes, play, LAST_LAMP};
 use crate::random::Random;
-use crate::refusal::NO_SUCH_FORM;
-use crate::sheet::{read, Fault, Sheet, SHEET_NODES};
-use crate::tree::{groups, select, Nodes, Operator, LAST_GROUP, MAXIMUM_NODES};
-
-/// What a sheet and its key show; the driver counts them.
-#[derive(Clone, Copy, PartialEq, Eq, PartialOrd, Ord, Debug)]
-pub enum Trait {
-    Refused(u16),
-    /// Refused with 2 for the number after the last group.
-    GroupPastLast,
-    /// Accepted with groups or marks of five digits, or with the last group.
-    FiveDigitGroup,
-    FiveDigitMark,
-    LastGroup,
-    /// A key with a group of five digits loaded into a register of two.
-    LongestLoad,
-    MostNodes,
-    NoMarks,
-    GatheredAlready,
-    Gatherable,
-    NotGatherable,
-    LiftDone,
-    LiftRefused(usize),
-    LiftedTo8191Nodes,
-    /// Steps of done lifts by their state and, where there is a D, the input.
-    StepAtLevel2(usize),
-    StepAtLevel3(usize, char),
-    StepDeeper(usize, char),
-    /// Steps that another of the same lift follows.
-    StepFollowed(usize, char),
-    /// A step refused with 15, by its level and state.
-    StepRefused(usize, usize),
-}
+use crate::refusal::INTERSECTION_ABOVE;
+use crate::sheet::{read, Sheet, SHEET_NODES};
+use crate::tree::{groups, select, without_intersection, Nodes, Operator, LAST_GROUP};
 
 /// The tree that instructions compute in register 0, if each result is used once.
 pub fn decode(code: &[u16]) -> Option<Vec<u16>> {
@@ -52,6 +22,7 @@ pub fn decode(code: &[u16]) -> Option<Vec<u16>> {
             LOAD if (1..=LAST_GROUP).contains(&first) => nodes.leaf(first),
             ADD => nodes.branch(Operator::Union, operand(first)?, operand(second)?),
             CUT => nodes.branch(Operator::Difference, operand(first)?, operand(second)?),
+            BOTH => nodes.branch(Operator::Intersection, operand(first)?, operand(second)?),
             _ => return None,
         };
         *registers.get_mut(usize::from(target))? = Some(node);
@@ -122,62 +93,15 @@ fn free_code(sheet: &Sheet, after_lifts: &[u16], printed: &Key) -> Result<(), St
     ensure(printed.held == Some(Held::At { first, count }), "HELD does not name the holder's run")
 }
 
-/// What happened to the marks of an accepted sheet.
-fn marks_trait(sheet: &Sheet, after_lifts: &[u16], expected: &Key) -> Trait {
-    let already = || holder(&Nodes::parse(after_lifts).expect("a tree"), &sheet.marks).is_some();
-    match expected.held {
-        None => Trait::NoMarks,
-        Some(Held::Cannot(_)) => Trait::NotGatherable,
-        Some(Held::At { .. }) if already() => Trait::GatheredAlready,
-        Some(Held::At { .. }) => Trait::Gatherable,
+/// The key of a sheet without `I` is one that could be printed before request 6.
+fn as_before_both(sheet: &Sheet, printed: &Key) -> Result<(), String> {
+    if !without_intersection(&sheet.tree) {
+        return Ok(());
     }
-}
-
-fn step_trait(step: &Step) -> Trait {
-    match (step.level, step.input) {
-        (_, None) => Trait::StepAtLevel2(step.state),
-        (3, Some(input)) => Trait::StepAtLevel3(step.state, input),
-        (_, Some(input)) => Trait::StepDeeper(step.state, input),
-    }
-}
-
-fn lift_traits(lifts: &Lifts) -> Vec<Trait> {
-    let mut traits: Vec<Trait> = lifts.steps.iter().map(step_trait).collect();
-    let followed = |step: &Step| step.input.map(|input| Trait::StepFollowed(step.state, input));
-    traits.extend(lifts.followed_steps.iter().filter_map(followed));
-    traits.extend(lifts.refused_steps.iter().map(|step| Trait::StepRefused(step.level, step.state)));
-    let line = |&(number, _, _): &_| if number == 0 { Trait::LiftDone } else { Trait::LiftRefused(number) };
-    traits.extend(lifts.lines.iter().map(line));
-    if lifts.tree.len() == MAXIMUM_NODES {
-        traits.push(Trait::LiftedTo8191Nodes);
-    }
-    traits
-}
-
-/// What a sheet and its code show of large group numbers.
-fn group_traits(sheet: &Sheet, code: &[u16]) -> Vec<Trait> {
-    let five_digits = |group: &u16| (10_000..=LAST_GROUP).contains(group);
-    let mut instructions = code.chunks(INSTRUCTION_NUMBERS);
-    let longest = |instruction: &[u16]| instruction[0] == LOAD && instruction[1] > 9 && five_digits(&instruction[2]);
-    let traits = [
-        (Trait::FiveDigitGroup, sheet.tree.iter().any(five_digits)),
-        (Trait::FiveDigitMark, sheet.marks.iter().any(five_digits)),
-        (Trait::LastGroup, sheet.tree.contains(&LAST_GROUP)),
-        (Trait::LongestLoad, instructions.any(longest)),
-    ];
-    traits.into_iter().filter(|(_, shown)| *shown).map(|(trait_, _)| trait_).collect()
-}
-
-/// What a refused sheet shows.
-fn refused_traits(bytes: &[u8], fault: &Fault) -> Vec<Trait> {
-    let refused = Trait::Refused(fault.number);
-    if fault.number != NO_SUCH_FORM {
-        return vec![refused];
-    }
-    let line = bytes.split(|&byte| byte == b'\n').nth(fault.line - 1);
-    let past_last = ["G", "K"].map(|kind| format!("{kind}\t{}", LAST_GROUP + 1));
-    let for_group = past_last.iter().any(|past_last| line == Some(past_last.as_bytes()));
-    [refused].into_iter().chain(for_group.then_some(Trait::GroupPastLast)).collect()
+    let both = printed.code.chunks(INSTRUCTION_NUMBERS).any(|instruction| instruction[0] == BOTH);
+    ensure(!both, "BOTH in the key of a sheet without I")?;
+    let refused = printed.lifts.iter().any(|&(number, _, _)| number == usize::from(INTERSECTION_ABOVE));
+    ensure(!refused, "a lift refused with 27 in a sheet without I")
 }
 
 /// The looks of a done lift are its levels.
@@ -200,18 +124,19 @@ fn same_bytes(printed: &[u8], expected: &[u8]) -> Result<(), String> {
 fn accepted(sheet: &Sheet, printed: &[u8], random: &mut Random) -> Result<Vec<Trait>, String> {
     let lifts = lifts(sheet);
     let expected = key(&lifts, &sheet.marks);
-    let marks = marks_trait(sheet, &lifts.tree, &expected);
+    let marks = marks(sheet, &lifts.tree, &expected);
     let parsed = Key::parse(printed);
-    if marks != Trait::Gatherable {
+    if marks != Marks::Gatherable {
         same_bytes(printed, &expected.print())?;
     }
     let parsed = parsed.ok_or("the bytes are not those of a key")?;
     looks(sheet, &parsed)?;
-    if marks == Trait::Gatherable {
+    as_before_both(sheet, &parsed)?;
+    if marks == Marks::Gatherable {
         ensure(parsed.lifts == expected.lifts, "the LIFT lines are not 01's")?;
         free_code(sheet, &lifts.tree, &parsed)?;
     }
-    if marks != Trait::NotGatherable {
+    if marks != Marks::NotGatherable {
         lamps(&parsed.code, &sheet.tree, random)?;
     }
     if let Some(Held::At { first, count }) = parsed.held {
@@ -219,7 +144,8 @@ fn accepted(sheet: &Sheet, printed: &[u8], random: &mut Random) -> Result<Vec<Tr
     }
     let mut traits = lift_traits(&lifts);
     traits.extend(group_traits(sheet, &parsed.code));
-    traits.push(marks);
+    traits.extend(intersection_traits(sheet, &lifts.tree, marks));
+    traits.push(Trait::Marked(marks));
     if sheet.tree.len() == SHEET_NODES {
         traits.push(Trait::MostNodes);
     }

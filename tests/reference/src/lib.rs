@@ -9,6 +9,7 @@ pub mod forms;
 pub mod gather;
 pub mod key;
 pub mod key_check;
+pub mod key_traits;
 pub mod lift;
 pub mod mark;
 pub mod mark_check;

@@ -1,4 +1,4 @@
-//! The lift (01, "The lift", and 02, Ticket 2), as a rewriting of the frames above A.
+//! The lift (01, "The lift", and 02, Tickets 2 and 6), as a rewriting of the frames above A.
 
 use crate::refusal::*;
 use crate::tree::{Node, Nodes, Operator, MAXIMUM_NODES};
@@ -38,38 +38,49 @@ fn minus_part(sibling: usize) -> Frame {
 }
 
 impl Frame {
-    /// 01's input letter for T in this frame.
-    fn input(self) -> char {
+    /// 01's input letter for T in this frame. T I D and D I T, which have none there, are i and j.
+    fn letter(self) -> char {
         match (self.operator, self.side) {
             (Operator::Union, Side::Left) => 'a',
             (Operator::Difference, Side::Left) => 'b',
             (Operator::Union, Side::Right) => 'c',
             (Operator::Difference, Side::Right) => 'd',
+            (Operator::Intersection, Side::Left) => 'i',
+            (Operator::Intersection, Side::Right) => 'j',
         }
     }
 }
 
-/// 01's state of a part, by the inputs of its parent and its grandparent.
-fn state(parent: char, grandparent: char) -> usize {
-    match (parent, grandparent) {
-        ('a' | 'c', 'a' | 'c') => 1,
-        ('a' | 'c', 'd') => 2,
-        ('b', 'b') => 3,
-        ('d', 'b') => 4,
-        ('a' | 'c', _) => 5,
-        ('b', 'a' | 'c') => 6,
-        ('d', 'a' | 'c') => 7,
-        ('b', _) => 8,
-        _ => 9,
-    }
+/// Whether a letter is an `I`'s.
+pub fn is_intersection(letter: char) -> bool {
+    matches!(letter, 'i' | 'j')
 }
 
-/// A's level and state before a step and, if there is a D, the input.
+/// A's level before a step, and the letters of its parent, its grandparent and, if there is one, the node above T.
 #[derive(Clone, Copy)]
 pub struct Step {
     pub level: usize,
-    pub state: usize,
-    pub input: Option<char>,
+    pub parent: char,
+    pub grandparent: char,
+    pub above: Option<char>,
+}
+
+impl Step {
+    /// 01's state; none where the parent or the grandparent is an `I`.
+    pub fn state(self) -> Option<usize> {
+        Some(match (self.parent, self.grandparent) {
+            ('i' | 'j', _) | (_, 'i' | 'j') => return None,
+            ('a' | 'c', 'a' | 'c') => 1,
+            ('a' | 'c', 'd') => 2,
+            ('b', 'b') => 3,
+            ('d', 'b') => 4,
+            ('a' | 'c', _) => 5,
+            ('b', 'a' | 'c') => 6,
+            ('d', 'a' | 'c') => 7,
+            ('b', _) => 8,
+            _ => 9,
+        })
+    }
 }
 
 /// A tree taken apart at A: the nodes above A from the root down, and how many nodes it has.
@@ -98,22 +109,26 @@ impl Place {
     /// The next step of A, which is at level 2 or deeper.
     fn next_step(&self) -> Step {
         let level = self.frames.len();
-        let input = |nodes_up: usize| self.frames[level - nodes_up].input();
-        Step { level, state: state(input(1), input(2)), input: (level > 2).then(|| input(3)) }
+        let letter = |nodes_up: usize| self.frames[level - nodes_up].letter();
+        Step { level, parent: letter(1), grandparent: letter(2), above: (level > 2).then(|| letter(3)) }
     }
 
-    /// Makes this step, A's next; `None` for want of D.
-    fn make(&mut self, step: Step) -> Option<()> {
+    /// Makes this step, A's next; refused with 27 for an `I`, with 15 for want of D.
+    fn make(&mut self, step: Step) -> Result<(), Refusal> {
+        let state = step.state().ok_or(INTERSECTION_ABOVE)?;
         let grandparent = step.level - 2;
         let (b, c) = (self.frames[grandparent + 1].sibling, self.frames[grandparent].sibling);
-        if let Some(frame) = self.step_within(step.state, b, c) {
+        if let Some(frame) = self.step_within(state, b, c) {
             self.replace(grandparent, &[frame]);
-        } else {
-            let above = grandparent.checked_sub(1)?;
-            let frames = self.step_with(step.state, b, c, self.frames[above]);
-            self.replace(above, &frames);
+            return Ok(());
         }
-        Some(())
+        if step.above.is_some_and(is_intersection) {
+            return Err(INTERSECTION_ABOVE);
+        }
+        let above = grandparent.checked_sub(1).ok_or(NO_STEP)?;
+        let frames = self.step_with(state, b, c, self.frames[above]);
+        self.replace(above, &frames);
+        Ok(())
     }
 
     /// States 1 to 4: the one frame that takes the place of two.
@@ -138,7 +153,7 @@ impl Place {
             8 => (minus_part(c), self.in_both(c, b)),
             _ => return self.step_in_state_9(b, c, input),
         };
-        match input.input() {
+        match input.letter() {
             'a' => [union_part(self.nodes.union(d, rest)), own],
             'b' => [part_union(self.nodes.difference(rest, d)), self.without(own, d)],
             'c' => [part_union(self.nodes.union(d, rest)), own],
@@ -149,7 +164,7 @@ impl Place {
     /// State 9, where T is C less A's frame (02, Ticket 2; 01 for input b).
     fn step_in_state_9(&mut self, b: usize, c: usize, input: Frame) -> [Frame; 2] {
         let d = input.sibling;
-        match input.input() {
+        match input.letter() {
             'a' | 'c' => [minus_part(self.nodes.union(c, d)), minus_part(self.nodes.difference(b, d))],
             'b' => [minus_part(self.nodes.difference(c, d)), minus_part(b)],
             _ => [union_part(self.nodes.difference(d, c)), minus_part(self.in_both(d, b))],
@@ -211,7 +226,7 @@ pub struct Lifted {
     pub looks: usize,
 }
 
-/// The lifted tree, or 12 to 16.
+/// The lifted tree, or 12 to 16 or 27.
 pub fn lift(list: &[u16], position: usize, levels: usize) -> Result<Lifted, Refusal> {
     lift_noting_steps(list, position, levels, &mut Vec::new())
 }
@@ -235,7 +250,7 @@ pub fn lift_noting_steps(
     for _ in 0..levels {
         let step = place.next_step();
         steps.push(step);
-        place.make(step).ok_or(NO_STEP)?;
+        place.make(step)?;
         looks += 1;
         if place.count > MAXIMUM_NODES {
             return Err(RESULT_TOO_LONG);

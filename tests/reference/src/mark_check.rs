@@ -7,7 +7,7 @@ use crate::key::lifts;
 use crate::mark::{mark, print, File, Mark, Refused};
 use crate::refusal::*;
 use crate::sheet::{read, read_candidate, Fault, Sheet, SHEET_NODES};
-use crate::tree::{groups, Nodes, LAST_GROUP, MAXIMUM_NODES};
+use crate::tree::{groups, without_intersection, Nodes, LAST_GROUP, MAXIMUM_NODES};
 
 /// What a question and a candidate's file show; the driver counts them.
 #[derive(Clone, Copy, PartialEq, Eq, PartialOrd, Ord, Debug)]
@@ -35,6 +35,10 @@ pub enum Trait {
     /// Out of its place: a lift, a mark.
     LiftLine,
     MarkLine,
+    /// An `I` in the question alone, in the drawing alone, in both.
+    IntersectionInQuestion(Mark),
+    IntersectionInDrawing(Mark),
+    IntersectionInBoth(Mark),
 }
 
 /// The first line, counted in the bytes, that has a group but none of these, and its number.
@@ -101,6 +105,7 @@ impl Drawing {
         let marked = !question.marks.is_empty();
         let own = groups(tree);
         let missing = question.marks.iter().filter(|group| !own.contains(group)).count();
+        let [asked, drawn] = [&question.tree, tree].map(|tree| !without_intersection(tree));
         shown([
             (Trait::Marked(mark), true),
             (Trait::Unmarked(mark), !marked),
@@ -111,6 +116,9 @@ impl Drawing {
             (Trait::NoMarkedLeaf, marked && *same_lamps && missing == question.marks.len()),
             (Trait::RightOtherTree, marked && mark == Mark::Right && *tree != question.tree),
             (Trait::BothFaults, !same_lamps && !gathered),
+            (Trait::IntersectionInQuestion(mark), asked && !drawn),
+            (Trait::IntersectionInDrawing(mark), !asked && drawn),
+            (Trait::IntersectionInBoth(mark), asked && drawn),
         ])
     }
 }

@@ -1,6 +1,6 @@
 //! The player (01, "The player").
 
-use crate::coder::{ADD, CUT, INSTRUCTION_NUMBERS, LOAD, REGISTERS};
+use crate::coder::{ADD, BOTH, CUT, INSTRUCTION_NUMBERS, LOAD, REGISTERS};
 use crate::refusal::*;
 use crate::tree::{Set, LAST_GROUP, MAXIMUM_NODES};
 use std::collections::HashMap;
@@ -31,7 +31,7 @@ fn is_instruction(instruction: &[u16]) -> bool {
     let [kind, target, first, second] = *instruction else { return false };
     let operands = match kind {
         LOAD => (1..=LAST_GROUP).contains(&first) && second == 0,
-        ADD | CUT => first < REGISTERS && second < REGISTERS,
+        ADD | CUT | BOTH => first < REGISTERS && second < REGISTERS,
         _ => false,
     };
     target < REGISTERS && operands
@@ -68,7 +68,8 @@ pub fn play(code: &[u16], patch: &[u16]) -> Result<[u8; LAMP_BYTES], Refusal> {
         registers[usize::from(instruction[1])] = match instruction[0] {
             LOAD => patch.get(&instruction[2]).copied().unwrap_or_default(),
             ADD => registers[first].union(&registers[second]),
-            _ => registers[first].difference(&registers[second]),
+            CUT => registers[first].difference(&registers[second]),
+            _ => registers[first].intersection(&registers[second]),
         };
     }
     Ok(lamp_bytes(&registers[0]))

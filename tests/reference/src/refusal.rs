@@ -32,3 +32,6 @@ pub const PAIR: Refusal = 25;
 
 /// 02, request 5.
 pub const FOREIGN_GROUP: Refusal = 26;
+
+/// 02, request 6.
+pub const INTERSECTION_ABOVE: Refusal = 27;

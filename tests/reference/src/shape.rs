@@ -1,11 +1,12 @@
 //! Random trees of many shapes, and trees put together by hand.
 
 use crate::random::Random;
-use crate::tree::{groups, Node, Nodes, Operator, DIFFERENCE, LAST_GROUP, UNION};
+use crate::tree::{groups, Node, Nodes, Operator, DIFFERENCE, INTERSECTION, LAST_GROUP, UNION};
+use crate::tree::{THREE_OPERATORS, TWO_OPERATORS};
 
 /// Numbers about the least group, the one that was the last until request 4, the last and the operators,
 /// and whether each is a group.
-pub const GROUP_EDGES: [(u16, bool); 11] = [
+pub const GROUP_EDGES: [(u16, bool); 12] = [
     (0, false),
     (1, true),
     (9999, true),
@@ -15,7 +16,8 @@ pub const GROUP_EDGES: [(u16, bool); 11] = [
     (65_000, false),
     (UNION, false),
     (DIFFERENCE, false),
-    (65_003, false),
+    (INTERSECTION, false),
+    (65_004, false),
     (u16::MAX, false),
 ];
 
@@ -49,11 +51,40 @@ pub fn spread_groups(count: usize) -> Vec<u16> {
     (0..count).map(|at| (1 + at * steps / (count - 1)) as u16).collect()
 }
 
-/// How a tree splits its leaves, and how often an operator is a difference, in eighths.
+/// The operators that a tree may have.
+#[derive(Clone, Copy, PartialEq, Eq)]
+pub enum Operators {
+    /// As before request 6.
+    WithoutIntersection,
+    All,
+}
+
+impl Operators {
+    /// All in one of three cases.
+    pub fn any(random: &mut Random) -> Operators {
+        if random.one_in(3) {
+            Operators::All
+        } else {
+            Operators::WithoutIntersection
+        }
+    }
+
+    /// One of them.
+    pub fn pick(self, random: &mut Random) -> Operator {
+        match self {
+            Operators::WithoutIntersection => random.pick(TWO_OPERATORS),
+            Operators::All => random.pick(THREE_OPERATORS),
+        }
+    }
+}
+
+/// How a tree splits its leaves, how often an operator is an intersection, and how often another one is a
+/// difference, in eighths.
 #[derive(Clone, Copy)]
 pub struct Shape {
     split: Split,
     differences: usize,
+    intersections: usize,
 }
 
 #[derive(Clone, Copy)]
@@ -67,22 +98,42 @@ enum Split {
 }
 
 impl Shape {
-    pub fn any(random: &mut Random) -> Shape {
+    pub fn any(operators: Operators, random: &mut Random) -> Shape {
         use Split::*;
-        Shape {
+        let shape = Shape {
             split: random.pick(&[Left, Right, Even, Any, Any, MostlyLeft, MostlyRight]),
             differences: random.pick(&[0, 2, 4, 4, 6, 7, 8]),
+            intersections: 0,
+        };
+        match operators {
+            Operators::WithoutIntersection => shape,
+            Operators::All => shape.with_intersections(random.pick(&[1, 1, 2, 2, 4, 8])),
         }
     }
 
-    /// Any split, both operators alike.
+    /// Any split, unions and differences alike.
     pub fn mixed() -> Shape {
-        Shape { split: Split::Any, differences: 4 }
+        Shape { split: Split::Any, differences: 4, intersections: 0 }
     }
 
     /// Long chains of differences that are taken away, with some other node now and then: state 9.
     pub fn nested_differences() -> Shape {
-        Shape { split: Split::MostlyRight, differences: 7 }
+        Shape { split: Split::MostlyRight, differences: 7, intersections: 0 }
+    }
+
+    /// The same with so many eighths of intersections.
+    pub fn with_intersections(self, intersections: usize) -> Shape {
+        Shape { intersections, ..self }
+    }
+
+    fn operator(self, random: &mut Random) -> Operator {
+        if self.intersections > 0 && random.below(8) < self.intersections {
+            Operator::Intersection
+        } else if random.below(8) < self.differences {
+            Operator::Difference
+        } else {
+            Operator::Union
+        }
     }
 
     fn left_leaves(self, leaves: usize, random: &mut Random) -> usize {
@@ -104,7 +155,7 @@ impl Shape {
         let left = self.left_leaves(leaves, random);
         self.grow(left, groups, random, tree);
         self.grow(leaves - left, groups, random, tree);
-        tree.push(if random.below(8) < self.differences { DIFFERENCE } else { UNION });
+        tree.push(self.operator(random).number());
     }
 
     /// A random tree of this shape over some of the groups.
@@ -125,6 +176,10 @@ pub fn union(left: &[u16], right: &[u16]) -> Vec<u16> {
 
 pub fn difference(left: &[u16], right: &[u16]) -> Vec<u16> {
     join(left, right, Operator::Difference)
+}
+
+pub fn intersection(left: &[u16], right: &[u16]) -> Vec<u16> {
+    join(left, right, Operator::Intersection)
 }
 
 /// The level of each node of a tree.
@@ -150,9 +205,14 @@ pub fn row_tree(row: usize, groups: &[u16]) -> Vec<u16> {
     outside.iter().fold(tree, |tree, &place| difference(&tree, &[groups[place]]))
 }
 
+/// All groups.
+pub fn union_of_groups(groups: &[u16]) -> Vec<u16> {
+    groups[1..].iter().fold(vec![groups[0]], |tree, &group| union(&tree, &[group]))
+}
+
 /// All groups less all groups: it selects nothing.
 fn nothing(groups: &[u16]) -> Vec<u16> {
-    let all = groups[1..].iter().fold(vec![groups[0]], |tree, &group| union(&tree, &[group]));
+    let all = union_of_groups(groups);
     difference(&all, &all)
 }
 

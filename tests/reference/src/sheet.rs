@@ -1,7 +1,7 @@
 //! Reading a sheet (01, "The sheet"; 02's requests where they change it) or a candidate's file (02, request 5).
 
 use crate::refusal::*;
-use crate::tree::{Operator, DIFFERENCE, LAST_GROUP, MAXIMUM_NODES, UNION};
+use crate::tree::{Operator, DIFFERENCE, INTERSECTION, LAST_GROUP, MAXIMUM_NODES, UNION};
 
 pub const SHEET_BYTES: usize = 60_000;
 /// 02, request 1.
@@ -40,6 +40,7 @@ impl Sheet {
         let tree_line = |&number: &u16| match number {
             UNION => "U\n".to_string(),
             DIFFERENCE => "D\n".to_string(),
+            INTERSECTION => "I\n".to_string(),
             group => format!("G\t{group}\n"),
         };
         let mut text: String = self.tree.iter().map(tree_line).collect();
@@ -106,6 +107,7 @@ fn parse_line(line: &[u8]) -> Option<Line> {
         [b"G", field] => group(field).map(Line::Group),
         [b"U"] => Some(Line::Operator(Operator::Union)),
         [b"D"] => Some(Line::Operator(Operator::Difference)),
+        [b"I"] => Some(Line::Operator(Operator::Intersection)),
         [b"L", position, levels] => {
             Some(Line::Lift(decimal(position, 0, LAST_POSITION)?, decimal(levels, 1, MAXIMUM_LEVELS)?))
         }

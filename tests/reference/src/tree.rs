@@ -2,21 +2,29 @@
 
 pub const UNION: u16 = 65001;
 pub const DIFFERENCE: u16 = 65002;
+/// 02, request 6.
+pub const INTERSECTION: u16 = 65003;
 /// 02, request 4.
 pub const LAST_GROUP: u16 = 60_000;
 pub const MAXIMUM_NODES: usize = 8191;
 
-#[derive(Clone, Copy, PartialEq, Eq, Debug)]
+#[derive(Clone, Copy, PartialEq, Eq, PartialOrd, Ord, Debug)]
 pub enum Operator {
     Union,
     Difference,
+    Intersection,
 }
+
+/// The operators of 01, and those with 02's request 6.
+pub const TWO_OPERATORS: &[Operator] = &[Operator::Union, Operator::Difference];
+pub const THREE_OPERATORS: &[Operator] = &[Operator::Union, Operator::Difference, Operator::Intersection];
 
 impl Operator {
     pub fn number(self) -> u16 {
         match self {
             Operator::Union => UNION,
             Operator::Difference => DIFFERENCE,
+            Operator::Intersection => INTERSECTION,
         }
     }
 
@@ -24,6 +32,7 @@ impl Operator {
         match self {
             Operator::Union => left.union(right),
             Operator::Difference => left.difference(right),
+            Operator::Intersection => left.intersection(right),
         }
     }
 }
@@ -40,14 +49,16 @@ pub fn sign(number: u16) -> Option<Sign> {
         1..=LAST_GROUP => Some(Sign::Group(number)),
         UNION => Some(Sign::Operator(Operator::Union)),
         DIFFERENCE => Some(Sign::Operator(Operator::Difference)),
+        INTERSECTION => Some(Sign::Operator(Operator::Intersection)),
         _ => None,
     }
 }
 
-/// Anything that has union and difference.
+/// Anything that has union, difference and intersection.
 pub trait Set {
     fn union(&self, other: &Self) -> Self;
     fn difference(&self, other: &Self) -> Self;
+    fn intersection(&self, other: &Self) -> Self;
 }
 
 /// One lamp: in or out.
@@ -58,6 +69,9 @@ impl Set for bool {
     fn difference(&self, other: &bool) -> bool {
         *self & !*other
     }
+    fn intersection(&self, other: &bool) -> bool {
+        *self & *other
+    }
 }
 
 /// Many lamps, one bit each.
@@ -67,6 +81,9 @@ impl<const WORDS: usize> Set for [u64; WORDS] {
     }
     fn difference(&self, other: &Self) -> Self {
         std::array::from_fn(|word| self[word] & !other[word])
+    }
+    fn intersection(&self, other: &Self) -> Self {
+        std::array::from_fn(|word| self[word] & other[word])
     }
 }
 
@@ -96,6 +113,11 @@ pub fn groups(list: &[u16]) -> Vec<u16> {
         }
     }
     groups
+}
+
+/// Whether a list has no `I`.
+pub fn without_intersection(list: &[u16]) -> bool {
+    !list.contains(&INTERSECTION)
 }
 
 #[derive(Clone, Copy)]
@@ -183,6 +205,7 @@ impl Nodes {
         match number {
             UNION => Node::Branch { operator: Operator::Union, left, right },
             DIFFERENCE => Node::Branch { operator: Operator::Difference, left, right },
+            INTERSECTION => Node::Branch { operator: Operator::Intersection, left, right },
             group => Node::Leaf(group),
         }
     }

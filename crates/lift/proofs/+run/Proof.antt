@@ -13,7 +13,7 @@ use Rattle.step.specs.InnerSteps.{StepIs, StepDone}
 use Rattle.lift.specs.Lift.{Result}
 use Rattle.lift.specs.Answer.{Lifts}
 use Rattle.step.specs.declared.Stepped.{Stepped}
-use Rattle.lift.proofs.RunLaws.{goes-on, stops, grows-too-long, ends}
+use Rattle.lift.proofs.RunLaws.{goes-on, stops, is-blocked, grows-too-long, ends}
 use Prim.Native.Nat.{ℕ, _<_}
 use borrow.Fn.Kinds.{In}
 use borrow.Fn.PlainCycle.{Measures, is, falls, and}
@@ -91,6 +91,9 @@ run-enum-told t c = search needs
 run-enum-told-2 : (t : ℕ) → run-lts.Need-enum-told-2 (calls t) (run-at t) run.Post
 run-enum-told-2 t c = search needs
 
+run-enum-told-3 : (t : ℕ) → run-lts.Need-enum-told-3 (calls t) (run-at t) run.Post
+run-enum-told-3 t c = search needs
+
 run-enum-known-count : (t : ℕ) → run-lts.Need-enum-known-count (calls t) (run-at t) run.Post
 run-enum-known-count t c = search needs
 
@@ -136,7 +139,7 @@ run-returns-3 t c = record {
   lifts = λ a k S.
       let g = c .before .before .before .before .before .before .before .before .before .before .before .args in
       let r = c .before .before .before .before .step in
-      grows-too-long a k (g .levels) (g .looks) (c .before .before .before .before .before .before .before .if1 .left) (g .out .now) (subst (λ (x : Stepped). StepIs a k x (r .last .1 .1 .0)) (c .enum-told2 .given .1) (r .ensures a k S));
+      is-blocked a k (g .levels) (g .looks) (c .before .before .before .before .before .before .before .if1 .left) (g .out .now) (subst (λ (x : Stepped). StepIs a k x (r .last .1 .1 .0)) (c .enum-told2 .given .1) (r .ensures a k S));
 }
 
 run-same-length-7 : (t : ℕ) → run-lts.Need-same-length-7 (calls t) (run-at t) run.Post
@@ -145,11 +148,25 @@ run-same-length-7 t c = search needs
 run-same-length-8 : (t : ℕ) → run-lts.Need-same-length-8 (calls t) (run-at t) run.Post
 run-same-length-8 t c = search needs
 
+run-returns-4 : (t : ℕ) → run-lts.Need-returns-4 (calls t) (run-at t) run.Post
+run-returns-4 t c = record {
+  lifts = λ a k S.
+      let g = c .before .before .before .before .before .before .before .before .before .before .before .args in
+      let r = c .before .before .before .before .step in
+      grows-too-long a k (g .levels) (g .looks) (c .before .before .before .before .before .before .before .if1 .left) (g .out .now) (subst (λ (x : Stepped). StepIs a k x (r .last .1 .1 .0)) (c .enum-told3 .given .1) (r .ensures a k S));
+}
+
 run-same-length-9 : (t : ℕ) → run-lts.Need-same-length-9 (calls t) (run-at t) run.Post
 run-same-length-9 t c = search needs
 
-run-returns-4 : (t : ℕ) → run-lts.Need-returns-4 (calls t) (run-at t) run.Post
-run-returns-4 t c = record {
+run-same-length-10 : (t : ℕ) → run-lts.Need-same-length-10 (calls t) (run-at t) run.Post
+run-same-length-10 t c = search needs
+
+run-same-length-11 : (t : ℕ) → run-lts.Need-same-length-11 (calls t) (run-at t) run.Post
+run-same-length-11 t c = search needs
+
+run-returns-5 : (t : ℕ) → run-lts.Need-returns-5 (calls t) (run-at t) run.Post
+run-returns-5 t c = record {
   lifts = λ a k S.
       let g = c .before .before .before .before .before .before .before .before .before .before .before .before .before .before .before .before .before .before .before .before .before .before .args in
       let D = step-done t (c .before .before .before .before .before .before .before .before .before .before) a k S in
@@ -174,6 +191,7 @@ pub +run-spec : {M : Type 1} → statement M
     (run-step-requires t)
     (run-enum-told t)
     (run-enum-told-2 t)
+    (run-enum-told-3 t)
     (run-enum-known-count t)
     (run-sub-run t)
     (run-add-run t)
@@ -186,5 +204,8 @@ pub +run-spec : {M : Type 1} → statement M
     (run-returns-3 t)
     (run-same-length-7 t)
     (run-same-length-8 t)
-    (run-same-length-9 t)
     (run-returns-4 t)
+    (run-same-length-9 t)
+    (run-same-length-10 t)
+    (run-same-length-11 t)
+    (run-returns-5 t)

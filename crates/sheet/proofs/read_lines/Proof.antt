@@ -22,7 +22,7 @@ abbrev μ-loop : tie.MeasureT-loop
 -- after a line's step: the line at the byte, by the rules with as many nodes as there is room for, and what the step did
 line-is : (c : tie.After-step Inv-loop μ-loop) → c .before .before .before .before .line-at .result
     ≡ lineAt (withTasks (c .before .before .before .before .before .before .before .before .before .before .before .args .tasks) (withNodes (length (c .before .before .before .before .before .before .before .before .before .before .before .args .tree .now)) sheetRules)) (c .before .before .before .before .before .before .before .before .before .before .before .args .sheet .now) (c .before .before .before .before .before .before .loop .at)
-line-is c = c .before .before .before .before .line-at .ensures ∙ line-at-alike sheetRules _ refl _ _
+line-is c = c .before .before .before .before .line-at .ensures ∙ line-at-alike sheetRules _ refl refl _ _
 
 one-read : (c : tie.After-step Inv-loop μ-loop) → OneLine (withTasks (c .before .before .before .before .before .before .before .before .before .before .before .args .tasks) (withNodes (length (c .before .before .before .before .before .before .before .before .before .before .before .args .tree .now)) sheetRules)) (c .before .before .before .before .before .before .before .before .before .before .before .args .sheet .now) (c .before .before .before .before .before .before .loop .at) (c .before .before .before .before .line-at .result)
 one-read c =

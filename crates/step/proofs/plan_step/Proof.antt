@@ -6,7 +6,7 @@ use Rattle.tree.specs.Tree.{Tree, node}
 use Rattle.tree.specs.Context.{Frame, sided}
 use Rattle.step.specs.InnerStanding.{Standing}
 use Rattle.step.specs.InnerSteps.{UnderIs, FrameIs}
-use Rattle.step.proofs.PlanLaws.{no-parent, no-grandparent, stuck-without-state, t-without-d, stuck-without-d, t-alone, stuck-without-input, t-with-d}
+use Rattle.step.proofs.PlanLaws.{no-parent, no-grandparent, blocked-without-state, t-without-d, stuck-without-d, t-alone, blocked-without-input, t-with-d}
 use borrow.Author.Needs.{needs}
 use Rattle.step.proofs.plan_step.Statement.{statement}
 use Rattle.step.proofs.plan_step.Tie as tie
@@ -76,7 +76,7 @@ returns-3 : tie.Need-returns-3
 returns-3 c = λ a k S.
     let G = first (c .before .before .before .before .before .before) a k S in
     let H = second (c .before .before) a k G in
-    stuck-without-state G H (c .before .before .before .before .before .before .before .before .before .before .before .args .node) (S .state) (c .if1 .taken)
+    blocked-without-state G H (c .before .before .before .before .before .before .before .before .before .before .before .args .node) (S .state) (c .if1 .taken)
 
 frame-above-requires-3 : tie.Need-frame-above-requires-3
 frame-above-requires-3 c κs =
@@ -114,7 +114,7 @@ returns-7 : tie.Need-returns-7
 returns-7 c = λ a k S.
     let G = first (c .before .before .before .before .before .before .before .before .before .before .before .before .before) a k S in
     let H = second (c .before .before .before .before .before .before .before .before .before) a k G in
-    stuck-without-input G H (c .before .before .before .before .before .before .before .before .before .before .before .before .before .before .before .before .before .before .args .node) (S .state) (c .before .before .before .before .before .before .before .if1 .left) (third (c .before .before .before) a k G H) (c .if4 .taken) (c .before .if3 .left)
+    blocked-without-input G H (c .before .before .before .before .before .before .before .before .before .before .before .before .before .before .before .before .before .before .args .node) (S .state) (c .before .before .before .before .before .before .before .if1 .left) (third (c .before .before .before) a k G H) (c .if4 .taken) (c .before .if3 .left)
 
 returns-8 : tie.Need-returns-8
 returns-8 c = λ a k S.

@@ -23,16 +23,14 @@ plan c a k S =
 plan-step-requires : tie.Need-plan-step-requires
 plan-step-requires c κs = search needs
 
-enum-known-input : tie.Need-enum-known-input
-enum-known-input c = search needs
-
 enum-told : tie.Need-enum-told
 enum-told c = search needs
 
-returns : tie.Need-returns
-returns c = λ a k S.
-    let g = c .before .before .before .before .before .args in
-    subst (Planned (g .list .now) (g .node) k) (c .enum-told .given .1) (c .before .before .plan-step .ensures a k S)
+enum-told-2 : tie.Need-enum-told-2
+enum-told-2 c = search needs
+
+enum-known-input : tie.Need-enum-known-input
+enum-known-input c = search needs
 
 move-word-requires : tie.Need-move-word-requires
 move-word-requires c κs =
@@ -50,19 +48,19 @@ replace-requires c κs =
     let w = part-range (H .stretch) in
     (within H (part-range (L .2 .part)), ((w .low, w .high), (pre .1, search needs)))
 
-enum-told-2 : tie.Need-enum-told-2
-enum-told-2 c = search needs
+enum-told-3 : tie.Need-enum-told-3
+enum-told-3 c = search needs
 
 enum-known-nodes : tie.Need-enum-known-nodes
 enum-known-nodes c = search needs
 
-sub-t23 : tie.Need-sub-t23
-sub-t23 c =
+sub-t24 : tie.Need-sub-t24
+sub-t24 c =
     let L = c .before .before .before .before .before .before .before .before .before .before .before .before .before .before .before .before .pre .0 in
     omega (arith, L .2 .part .ends)
 
-add-t24 : tie.Need-add-t24
-add-t24 c =
+add-t25 : tie.Need-add-t25
+add-t25 c =
     let L = c .before .before .before .before .before .before .before .before .before .before .before .before .before .before .before .before .pre .0 in
     let word = c .before .before .before .before .before .before .before .before .before .move-word in
     let made = c .before .before .before .before .before .before .replace in
@@ -78,20 +76,30 @@ next-state-requires c κs =
     let word = c .before .before .before .before .before .before .before .before .before .before .move-word in
     word .ensures
 
-same-length : tie.Need-same-length
-same-length c = search needs
+returns : tie.Need-returns
+returns c = λ a k S.
+    let g = c .before .before .before .before .before .args in
+    subst (Planned (g .list .now) (g .node) k) (c .enum-told .given .1) (c .before .before .plan-step .ensures a k S)
 
 returns-2 : tie.Need-returns-2
 returns-2 c = λ a k S.
+    let g = c .before .before .before .before .before .args in
+    subst (Planned (g .list .now) (g .node) k) (c .enum-told2 .given .1) (c .before .before .plan-step .ensures a k S)
+
+same-length : tie.Need-same-length
+same-length c = search needs
+
+returns-3 : tie.Need-returns-3
+returns-3 c = λ a k S.
     let word = c .before .before .before .before .before .before .before .move-word in
     let made = c .before .before .before .before .replace in
-    too-long (plan (c .before .before .before .before .before .before .before .before) a k S) S (word .ensures) (made .ensures) (c .enum-told2 .given .1)
+    too-long (plan (c .before .before .before .before .before .before .before .before) a k S) S (word .ensures) (made .ensures) (c .enum-told3 .given .1)
 
 same-length-2 : tie.Need-same-length-2
 same-length-2 c = search needs
 
-returns-3 : tie.Need-returns-3
-returns-3 c = λ a k S.
+returns-4 : tie.Need-returns-4
+returns-4 c = λ a k S.
     let word = c .before .before .before .before .before .before .before .before .before .before .before .move-word in
     let made = c .before .before .before .before .before .before .before .before .replace in
     let H = plan (c .before .before .before .before .before .before .before .before .before .before .before .before) a k S in
@@ -102,19 +110,21 @@ step-spec =
     tie.close
     (tie.spec
     plan-step-requires
-    enum-known-input
     enum-told
-    returns
+    enum-told-2
+    enum-known-input
     move-word-requires
     slice-aggregate-replace
     replace-requires
-    enum-told-2
+    enum-told-3
     enum-known-nodes
-    sub-t23
-    add-t24
+    sub-t24
+    add-t25
     slice-aggregate-next-state
     next-state-requires
-    same-length
+    returns
     returns-2
+    same-length
+    returns-3
     same-length-2
-    returns-3)
+    returns-4)

@@ -1,9 +1,10 @@
 //! Tries a mark program on fixed and random pairs of files and checks every line.
 //!
-//! marks KEY_PROGRAM MARK_PROGRAM VECTORS TARGET [PAIRS [SEED]]
+//! marks KEY_PROGRAM MARK_PROGRAM VECTORS EARLIER TARGET [PAIRS [SEED]]
 //!   KEY_PROGRAM   the key program, whose gathered trees must be marked right; `--self` stands for the reference's own
 //!   MARK_PROGRAM  the mark program, or `--self`
 //!   VECTORS       a folder of NAME.question and NAME.candidate with NAME.mark
+//!   EARLIER       another, of pairs from before request 6
 //!   TARGET        a folder for the files that the program is given, and to which failing pairs are saved
 
 use driver::marks::{cases, kinds, limits, trials};
@@ -15,7 +16,7 @@ use reference::report::Report;
 use std::path::{Path, PathBuf};
 use std::process::ExitCode;
 
-const PAIRS: usize = 22_000;
+const PAIRS: usize = 33_000;
 const SEED: u64 = 2005;
 
 /// How often each of these must be met among ten thousand random pairs.
@@ -26,6 +27,7 @@ fn least_traits() -> Vec<(Trait, usize)> {
     for mark in [Right, OtherLamps, NotGathered] {
         least.extend([(Marked(mark), 900), (Lifted(mark), 80), (LastGroup(mark), 80)]);
         least.extend([(MostNodes(mark), 10), (MoreNodesThanASheet(mark), 30), (MarkMissing(mark), 20)]);
+        least.extend([IntersectionInQuestion, IntersectionInDrawing, IntersectionInBoth].map(|seen| (seen(mark), 70)));
     }
     least.extend([
         (Refused(Candidate, 26), 300),
@@ -52,13 +54,15 @@ fn least_counts(pairs: usize) -> Vec<(String, usize)> {
 }
 
 fn run(arguments: &[String]) -> Result<bool, String> {
-    let [key_program, mark_program, vectors, target, rest @ ..] = arguments else {
-        return Err("usage: marks KEY_PROGRAM MARK_PROGRAM VECTORS TARGET [PAIRS [SEED]]".to_string());
+    let [key_program, mark_program, vectors, earlier, target, rest @ ..] = arguments else {
+        return Err("usage: marks KEY_PROGRAM MARK_PROGRAM VECTORS EARLIER TARGET [PAIRS [SEED]]".to_string());
     };
     let number = |at: usize, default: u64| rest.get(at).map_or(Ok(default), |text| text.parse::<u64>());
     let random_pairs = number(0, PAIRS as u64).map_err(|error| error.to_string())? as usize;
     let seed = number(1, SEED).map_err(|error| error.to_string())?;
-    let mut cases = vectors::pairs(vectors.as_ref()).map_err(|error| format!("{vectors}: {error}"))?;
+    let folder = |folder: &String| vectors::pairs(folder.as_ref()).map_err(|error| format!("{folder}: {error}"));
+    let mut cases = folder(vectors)?;
+    cases.extend(folder(earlier)?);
     cases.extend(cases::cases());
     cases.extend(limits::limits());
     let subject = trials::Subject {

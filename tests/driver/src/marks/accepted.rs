@@ -3,14 +3,14 @@
 use super::drawings::*;
 use super::pair::{File, Pair};
 use super::questions::*;
-use crate::generate::gathered_tree;
+use crate::generate::{gathered, gathered_tree};
 use reference::gather::{constant, gather, rows};
 use reference::key::lifts;
 use reference::random::Random;
 use reference::refusal::Refusal;
-use reference::shape::{difference, row_tree, some_groups, table_tree, union, Shape};
-use reference::sheet::Sheet;
-use reference::tree::{groups, MAXIMUM_NODES};
+use reference::shape::{difference, row_tree, some_groups, table_tree, union, Operators, Shape};
+use reference::sheet::{Sheet, SHEET_NODES};
+use reference::tree::{groups, without_intersection, LAST_GROUP, MAXIMUM_NODES};
 
 const RIGHT: &str = "MARK 0/";
 const OTHER_LAMPS: &str = "MARK 1/";
@@ -80,7 +80,7 @@ pub fn no_marked_leaf(random: &mut Random) -> Pair {
     let all = some_groups(count, random);
     let (marks, others) = all.split_at(random.between(1, count - 1));
     let leaves = random.between(1, 40);
-    let tree = Shape::any(random).tree(leaves, others, random);
+    let tree = Shape::any(Operators::any(random), random).tree(leaves, others, random);
     let idle = marks.iter().fold(tree.clone(), |tree, &mark| union(&tree, &difference(&[mark], &[mark])));
     let question = Sheet { tree: idle, lifts: Vec::new(), marks: marks.to_vec() };
     Pair::drawn(&question, &rewritten(&tree, &groups(&tree), random)).due(NOT_GATHERED)
@@ -101,7 +101,7 @@ pub fn one_filling(random: &mut Random) -> Pair {
     let count = random.pick(&[2, 8, 8, 8]);
     let names = some_groups(count, random);
     let leaves = random.between(8, 60);
-    let tree = Shape::any(random).tree(leaves, &names, random);
+    let tree = Shape::any(Operators::any(random), random).tree(leaves, &names, random);
     let own = groups(&tree);
     let row = random.between(1, (1 << own.len()) - 1);
     let marks = if random.one_in(2) { own[..random.between(0, own.len())].to_vec() } else { Vec::new() };
@@ -113,7 +113,7 @@ pub fn one_filling(random: &mut Random) -> Pair {
 pub fn any_drawing(random: &mut Random) -> Pair {
     let sheet = any_question(random);
     let leaves = random.pick(&[2, 3, 5, 20, 200]);
-    let tree = Shape::any(random).tree(leaves, &groups(&sheet.tree), random);
+    let tree = Shape::any(Operators::any(random), random).tree(leaves, &groups(&sheet.tree), random);
     Pair::drawn(&sheet, &tree)
 }
 
@@ -121,7 +121,7 @@ pub fn any_drawing(random: &mut Random) -> Pair {
 fn any_gathered_tree(sheet: &Sheet, random: &mut Random) -> Vec<u16> {
     let others: Vec<u16> = groups(&sheet.tree).into_iter().filter(|group| !sheet.marks.contains(group)).collect();
     if others.is_empty() {
-        return Shape::any(random).tree(5, &sheet.marks, random);
+        return Shape::any(Operators::any(random), random).tree(5, &sheet.marks, random);
     }
     gathered_tree(&sheet.marks, &others, random)
 }
@@ -181,6 +181,41 @@ pub fn answered_19_equivalent(random: &mut Random) -> Pair {
 pub fn answered_19_gathered(random: &mut Random) -> Pair {
     let question = question_answered_19(random);
     Pair::drawn(&question, &any_gathered_tree(&question, random)).due(OTHER_LAMPS)
+}
+
+/// A gathered tree with an `I`, an equivalent one in which one `I` is written by differences, and the mark of the
+/// latter: the marked leaves stand in two places if they are copied beside an unmarked one.
+fn with_differences(random: &mut Random) -> (Sheet, Vec<u16>, &'static str) {
+    let sheet = std::iter::repeat_with(|| gathered(random)).find(|sheet| !without_intersection(&sheet.tree));
+    let sheet = sheet.expect("a tree with an I");
+    let (position, copy_right) = (random.pick(&intersections(&sheet.tree)), random.one_in(2));
+    let tree = by_differences(&sheet.tree, position, copy_right);
+    let [left, right] = operands(&sheet.tree, position);
+    let marked = |part: &[u16]| part.iter().any(|number| sheet.marks.contains(number));
+    let unmarked = |part: &[u16]| part.iter().any(|number| *number <= LAST_GROUP && !sheet.marks.contains(number));
+    let copied = if copy_right { &right } else { &left };
+    let scattered = marked(copied) && (unmarked(&left) || unmarked(&right));
+    (sheet, tree, if scattered { NOT_GATHERED } else { RIGHT })
+}
+
+/// x I y is asked and x−(x−y) drawn; at times without marks.
+pub fn intersection_asked(random: &mut Random) -> Pair {
+    let (mut question, tree, mark) = with_differences(random);
+    if random.one_in(4) {
+        question.marks.clear();
+        return Pair::drawn(&question, &tree).due(RIGHT);
+    }
+    Pair::drawn(&question, &tree).due(mark)
+}
+
+/// x−(x−y) is asked and x I y drawn.
+pub fn intersection_drawn(random: &mut Random) -> Pair {
+    loop {
+        let (Sheet { tree: drawing, marks, .. }, tree, _) = with_differences(random);
+        if tree.len() <= SHEET_NODES {
+            return Pair::drawn(&Sheet { tree, lifts: Vec::new(), marks }, &drawing).due(RIGHT);
+        }
+    }
 }
 
 /// For a question without marks: equivalent drawings are right.

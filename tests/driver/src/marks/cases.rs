@@ -20,9 +20,20 @@ const ALL_MARKED: &str = "G 1/G 2/D/K 2/K 1/E/";
 const NO_MARKS: &str = "G 1/G 2/D/E/";
 /// (1−2)−3, whose lift leaves 1−(2 U 3), which is gathered.
 const LIFTED_TO_GATHERED: &str = "G 1/G 2/D/G 3/D/L 0 1/K 2/K 3/E/";
+/// 1 and 2, with `I` and without it; 1 marked, both marked or neither.
+const BOTH: &str = "G 1/G 2/I/E/";
+const BOTH_BY_DIFFERENCES: &str = "G 1/G 1/G 2/D/D/E/";
+const BOTH_ONE_MARKED: &str = "G 1/G 2/I/K 1/E/";
+const BOTH_ALL_MARKED: &str = "G 1/G 1/G 2/D/D/K 1/K 2/E/";
+/// 1 and 2, or 3, with marks of 1 and 2.
+const BOTH_OR_3: &str = "G 1/G 2/I/G 3/U/K 1/K 2/E/";
+/// 1 and 3, or 2 and 4: answered 19.
+const TWO_BOTHS: &str = "G 1/G 3/I/G 2/G 4/I/U/K 1/K 2/E/";
+/// A lift of it is refused with 27; it plays no part.
+const LIFTED_UNDER_BOTH: &str = "G 1/G 2/D/G 3/I/L 0 1/K 2/E/";
 
 /// Question, candidate's tree and mark.
-const MARKED: [(&str, &str, usize); 62] = [
+const MARKED: [(&str, &str, usize); 97] = [
     // The key's own tree, others that are as good, the tree as written, wrong lamps.
     (EXAMPLE, "G 1/G 2/G 3/U/G 5/U/D/G 4/G 5/D/U/E/", 0),
     (EXAMPLE, "G 1/G 2/G 3/U/D/G 4/U/G 5/D/E/", 0),
@@ -93,10 +104,47 @@ const MARKED: [(&str, &str, usize); 62] = [
     (NO_MARKS, "G 1/G 2/U/G 2/D/E/", 0),
     (NO_MARKS, "G 2/G 1/D/E/", 1),
     (NO_MARKS, "G 1/G 2/G 2/D/D/E/", 1),
+    // x−(x−y) and x I y have the same lamps, asked and drawn either way.
+    (BOTH, "G 1/G 2/I/E/", 0),
+    (BOTH, "G 2/G 1/I/E/", 0),
+    (BOTH, "G 1/G 1/G 2/D/D/E/", 0),
+    (BOTH, "G 2/G 2/G 1/D/D/E/", 0),
+    (BOTH, "G 1/G 2/U/E/", 1),
+    (BOTH, "G 1/G 2/D/E/", 1),
+    (BOTH, "G 1/E/", 1),
+    (BOTH, "G 1/G 1/I/E/", 1),
+    (BOTH_BY_DIFFERENCES, "G 1/G 2/I/E/", 0),
+    (BOTH_BY_DIFFERENCES, "G 2/G 1/I/E/", 0),
+    (BOTH_BY_DIFFERENCES, "G 1/G 2/I/G 2/I/G 1/I/E/", 0),
+    (BOTH_BY_DIFFERENCES, "G 2/E/", 1),
+    (NO_MARKS, "G 1/G 1/G 2/I/D/E/", 0),
+    (NO_MARKS, "G 1/G 2/I/E/", 1),
+    // Marks under an I: of the two ways without it, one has the mark twice.
+    (BOTH_ONE_MARKED, "G 1/G 2/I/E/", 0),
+    (BOTH_ONE_MARKED, "G 2/G 1/I/E/", 0),
+    (BOTH_ONE_MARKED, "G 2/G 2/G 1/D/D/E/", 0),
+    (BOTH_ONE_MARKED, "G 1/G 1/I/G 2/I/E/", 0),
+    (BOTH_ONE_MARKED, "G 1/G 1/G 2/D/D/E/", 2),
+    (BOTH_ONE_MARKED, "G 1/G 2/I/G 1/I/E/", 2),
+    (BOTH_ONE_MARKED, "G 1/E/", 1),
+    (BOTH_ALL_MARKED, "G 1/G 2/I/E/", 0),
+    (BOTH_ALL_MARKED, "G 1/G 2/I/G 1/U/E/", 1),
+    (SAMPLE_10, "G 1/G 2/I/E/", 0),
+    (SAMPLE_10, "G 2/G 1/I/G 1/I/E/", 2),
+    (BOTH_OR_3, "G 3/G 2/G 1/I/U/E/", 0),
+    (BOTH_OR_3, "G 1/G 1/G 2/D/D/G 3/U/E/", 0),
+    (BOTH_OR_3, "G 1/G 3/U/G 2/G 3/U/I/E/", 2),
+    (BOTH_OR_3, "G 1/G 2/G 3/U/I/E/", 1),
+    (SAMPLE_8, "G 1/G 2/U/G 1/G 2/U/G 3/D/I/E/", 2),
+    (SAMPLE_9, "G 1/G 2/U/G 1/G 2/I/D/E/", 2),
+    (TWO_BOTHS, "G 1/G 3/I/G 2/G 4/I/U/E/", 2),
+    (TWO_BOTHS, "G 1/G 2/U/G 3/G 4/U/I/E/", 1),
+    (LIFTED_UNDER_BOTH, "G 1/G 2/D/G 3/I/E/", 0),
+    (LIFTED_UNDER_BOTH, "G 1/G 3/I/G 2/D/E/", 0),
 ];
 
 /// A candidate's file for a question of the groups 1 to 3, with the number and line of its refusal.
-const REFUSED: [(&str, &str); 45] = [
+const REFUSED: [(&str, &str); 53] = [
     ("", "10 1"),
     ("G 1/", "10 2"),
     ("G 1/G 2/", "10 3"),
@@ -112,7 +160,13 @@ const REFUSED: [(&str, &str); 45] = [
     ("U/E/", "4 1"),
     ("G 1/D/E/", "4 2"),
     ("G 1/G 2/U/D/", "4 4"),
-    ("G 1/G 2/I/E/", "2 3"),
+    ("I/E/", "4 1"),
+    ("G 1/I/E/", "4 2"),
+    ("G 1/G 2/I/I/", "4 4"),
+    ("G 1/G 2/I 1/E/", "2 3"),
+    ("G 1/G 2/i/E/", "2 3"),
+    ("G 1/G 2/I", "2 3"),
+    ("G 1/E/I/", "3 3"),
     // Lifts and marks have no place: 3 wherever they stand, before 7, 8, 9 and 10; 2 comes before it.
     ("L 0 1/E/", "3 1"),
     ("K 1/E/", "3 1"),
@@ -142,17 +196,20 @@ const REFUSED: [(&str, &str); 45] = [
     ("G 9/", "10 2"),
     ("G 9/G 1/E/", "7 3"),
     ("G 9/U/E/", "4 2"),
+    ("G 9/I/E/", "4 2"),
+    ("G 1/G 9/I/E/", "26 2"),
     ("G 9/K 9/E/", "3 2"),
     ("G 9/G 1/U/X/", "2 4"),
 ];
 const REFUSED_BESIDE: &str = "G 1/G 2/D/G 3/U/K 3/E/";
 
 /// The question's refusal comes first, whatever the candidate's file is.
-const REFUSED_QUESTIONS: [(&str, &str); 11] = [
+const REFUSED_QUESTIONS: [(&str, &str); 12] = [
     ("G 0/E/", "2 1"),
     ("G 1/E/E/", "3 3"),
     ("G 1/K 1/L 0 1/E/", "3 3"),
     ("G 1/U/E/", "4 2"),
+    ("G 1/I/E/", "4 2"),
     ("G 1/G 2/G 3/G 4/G 5/G 6/G 7/G 8/G 9/E/", "6 9"),
     ("G 1/G 2/K 1/E/", "7 3"),
     ("G 1/G 2/L 0 1/E/", "7 3"),
@@ -161,7 +218,7 @@ const REFUSED_QUESTIONS: [(&str, &str); 11] = [
     ("G 1/K 1/", "10 3"),
     ("", "10 1"),
 ];
-const CANDIDATES_BESIDE: [&str; 6] = ["G 1/E/", "", "G 9/E/", "K 1/E/", "X", "G 1/U/E/"];
+const CANDIDATES_BESIDE: [&str; 7] = ["G 1/E/", "", "G 9/E/", "K 1/E/", "X", "G 1/U/E/", "G 1/I/E/"];
 
 fn case(question: &str, candidate: &str, line: &str) -> Pair {
     let name = format!("pair {question:?}, {candidate:?}");

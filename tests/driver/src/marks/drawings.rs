@@ -1,8 +1,8 @@
 //! Drawings made from a tree: changed, written differently, larger.
 
 use reference::random::Random;
-use reference::shape::{difference, union};
-use reference::tree::{Node, Nodes, Operator, DIFFERENCE, LAST_GROUP, MAXIMUM_NODES, UNION};
+use reference::shape::{difference, intersection, join, union};
+use reference::tree::{Node, Nodes, Operator, DIFFERENCE, INTERSECTION, LAST_GROUP, MAXIMUM_NODES, UNION};
 
 /// The positions of the leaves whose group `wanted` picks out.
 pub fn leaves(tree: &[u16], wanted: impl Fn(u16) -> bool) -> Vec<usize> {
@@ -20,7 +20,8 @@ pub fn operator_changed(tree: &[u16], random: &mut Random) -> Vec<u16> {
     let mut changed = tree.to_vec();
     if !operators.is_empty() {
         let position = random.pick(&operators);
-        changed[position] = if tree[position] == UNION { DIFFERENCE } else { UNION };
+        let others = [UNION, DIFFERENCE, INTERSECTION].into_iter().filter(|&number| number != tree[position]);
+        changed[position] = random.pick(&others.collect::<Vec<u16>>());
     }
     changed
 }
@@ -42,17 +43,19 @@ pub fn operands_swapped(tree: &[u16], random: &mut Random) -> Vec<u16> {
     }
     let node = random.pick(&branches);
     let Node::Branch { operator, left, right } = nodes.node(node) else { unreachable!("a branch") };
-    let part = [&nodes.postfix(right)[..], &nodes.postfix(left), &[operator.number()]].concat();
+    let part = join(&nodes.postfix(right), &nodes.postfix(left), operator);
     replaced(tree, node, nodes.size(node), &part)
 }
 
-/// A part written differently by a law of unions and differences; a leaf stays.
+/// A part written differently by a law of the operators; a leaf stays.
 fn by_law(nodes: &Nodes, node: usize) -> Vec<u16> {
     let list = |node: usize| nodes.postfix(node);
     let Node::Branch { operator, left, right } = nodes.node(node) else { return list(node) };
     let (x, y) = (list(left), list(right));
-    if operator == Operator::Union {
-        return union(&y, &x);
+    match operator {
+        Operator::Union => return union(&y, &x),
+        Operator::Intersection => return intersection(&y, &x),
+        Operator::Difference => {}
     }
     match (nodes.node(left), nodes.node(right)) {
         (Node::Branch { operator: Operator::Union, left: a, right: b }, _) => {
@@ -68,6 +71,25 @@ fn by_law(nodes: &Nodes, node: usize) -> Vec<u16> {
     }
 }
 
+/// The lists of the operands of the operator at a position.
+pub fn operands(tree: &[u16], position: usize) -> [Vec<u16>; 2] {
+    let nodes = Nodes::parse(tree).expect("a tree");
+    let Node::Branch { left, right, .. } = nodes.node(position) else { unreachable!("an operator") };
+    [left, right].map(|node| nodes.postfix(node))
+}
+
+/// The positions of the operators that are `I`.
+pub fn intersections(tree: &[u16]) -> Vec<usize> {
+    (0..tree.len()).filter(|&position| tree[position] == INTERSECTION).collect()
+}
+
+/// An equivalent tree in which x−(x−y) stands for the x I y at a position, or y−(y−x) if the right one is copied.
+pub fn by_differences(tree: &[u16], position: usize, copy_right: bool) -> Vec<u16> {
+    let [left, right] = operands(tree, position);
+    let (x, y) = if copy_right { (&right, &left) } else { (&left, &right) };
+    replaced(tree, position, left.len() + right.len() + 1, &difference(x, &difference(x, y)))
+}
+
 /// An equivalent tree: one part, and then another, is written differently, at times with one of these groups more.
 pub fn rewritten(tree: &[u16], groups: &[u16], random: &mut Random) -> Vec<u16> {
     let mut tree = tree.to_vec();
@@ -81,6 +103,7 @@ pub fn rewritten(tree: &[u16], groups: &[u16], random: &mut Random) -> Vec<u16> 
             0 => union(&part, &part),
             1 => difference(&part, &nothing),
             2 => union(&nothing, &part),
+            3 => intersection(&part, &part),
             _ => by_law(&nodes, node),
         };
         let other = replaced(&tree, node, nodes.size(node), &part);

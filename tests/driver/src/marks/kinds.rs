@@ -12,7 +12,7 @@ use reference::{compact, gather};
 /// A kind of pair and how many of all the shares are of it.
 type Kind = (&'static str, usize, fn(&mut Random) -> Pair);
 
-pub const KINDS: [Kind; 41] = [
+pub const KINDS: [Kind; 43] = [
     ("own tree", 6, own_tree),
     ("own tree, gathered anew by the plain builder", 8, |random| own_tree_by(gather::gather, random)),
     ("own tree, gathered anew by the compact builder", 8, |random| own_tree_by(compact::gather, random)),
@@ -38,6 +38,8 @@ pub const KINDS: [Kind; 41] = [
     ("answered 19, a gathered tree with nearly its lamps", 5, answered_19_near),
     ("answered 19, an equivalent tree", 6, answered_19_equivalent),
     ("answered 19, any gathered tree", 4, answered_19_gathered),
+    ("an I asked, differences drawn", 6, intersection_asked),
+    ("differences asked, an I drawn", 6, intersection_drawn),
     ("no marks, an equivalent tree", 6, unmarked_equivalent),
     ("no marks, a change", 6, unmarked_changed),
     ("one foreign group", 6, |random| foreign(1, random)),

@@ -30,6 +30,9 @@ fn nodes_of_candidate() -> Vec<Pair> {
         pairs.push(pair(&format!("{nodes} nodes"), eight_unmarked(), drawn(nodes), "MARK 0/"));
         pairs.push(pair(&format!("{nodes} nodes, not gathered"), eight_groups(), drawn(nodes), "MARK 2/"));
     }
+    let both = |nodes: usize| (tree_lines(nodes).replace('U', "I") + "E\n").into_bytes();
+    pairs.push(pair("8,191 nodes of I", both(15), both(MAXIMUM_NODES), "MARK 0/"));
+    pairs.push(pair("8,193 nodes of I", both(15), both(MAXIMUM_NODES + 2), "NO 5 8192 1/"));
     let too_many = [MAXIMUM_NODES + 2, 2 * MAXIMUM_NODES + 1];
     pairs.extend(too_many.map(|nodes| pair(&format!("{nodes} nodes"), eight_groups(), drawn(nodes), "NO 5 8192 1/")));
     pairs
@@ -44,12 +47,14 @@ fn line_after_most_nodes() -> Vec<Pair> {
         (&one, "G\t9", 5),
         (&one, "U", 4),
         (&one, "D", 4),
+        (&one, "I", 4),
         (&one, "L\t0\t1", 3),
         (&one, "K\t1", 3),
         (&one, "G\t0", 2),
         (&three, "G\t1", 5),
         (&three, "U", 5),
         (&three, "D", 5),
+        (&three, "I", 5),
         (&three, "E", 7),
         (&three, "L\t0\t1", 3),
         (&three, "K\t1", 3),

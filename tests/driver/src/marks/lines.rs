@@ -9,10 +9,11 @@ use reference::sheet::print_tree;
 use reference::tree::{groups, LAST_GROUP};
 
 /// Lines of no form; with the number after the last group there is one more.
-const BAD_LINES: [&str; 18] = [
+const BAD_LINES: [&str; 19] = [
     "",
     "X",
-    "I",
+    "I\t1",
+    "i",
     "G",
     "G\t0",
     "G\t01",

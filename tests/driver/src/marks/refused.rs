@@ -9,7 +9,7 @@ use crate::generate::{noise, one_fault, whole};
 use reference::gather::MAXIMUM_GROUPS;
 use reference::random::Random;
 use reference::refusal::*;
-use reference::shape::{edge_groups, Shape};
+use reference::shape::{edge_groups, Operators, Shape};
 use reference::sheet::{print_tree, read, Sheet, SHEET_BYTES};
 use reference::tree::{groups, LAST_GROUP, MAXIMUM_NODES};
 
@@ -62,7 +62,7 @@ pub fn foreign_then_fault(random: &mut Random) -> Pair {
         lines.insert(at, line);
         at + 1
     };
-    let operator = random.pick(&["U", "D"]).to_string();
+    let operator = random.pick(&["U", "D", "I"]).to_string();
     let (number, line) = match random.below(7) {
         0 => (NO_SUCH_FORM, insert(after, bad_line(random))),
         1 => (OUT_OF_PLACE, insert(after, lift_or_mark(&tree[first - 1..first], random))),
@@ -86,7 +86,7 @@ pub fn too_many_nodes(random: &mut Random) -> Pair {
     let (question, tree) = smaller_right_tree(random);
     let own = format!("G\t{}", tree[0]);
     let foreign = format!("G\t{}", foreign_group(&groups(&question.tree), random));
-    let operator = random.pick(&["U", "D"]).to_string();
+    let operator = random.pick(&["U", "D", "I"]).to_string();
     let (nodes, extra, number) = match random.below(6) {
         0 | 1 => (MAXIMUM_NODES + 2, vec![], TOO_MANY_NODES),
         2 => (MAXIMUM_NODES, vec![own], TOO_MANY_NODES),
@@ -110,7 +110,7 @@ pub fn ninth_group(random: &mut Random) -> Pair {
     let mut seen = Vec::new();
     let tree = loop {
         let leaves = random.pick(&[12, 30, 60]);
-        let tree = Shape::any(random).tree(leaves, &names, random);
+        let tree = Shape::any(Operators::any(random), random).tree(leaves, &names, random);
         if groups(&tree).len() > MAXIMUM_GROUPS {
             break tree;
         }
