@@ -153,19 +153,18 @@ fn scan_onward(list: &[u16], to: usize) -> usize
     requires { ⌜ to ≤ length (now list) ⌝ }
     ensures { λ r. ⌜ r ≡ to + onward 0 (drop to (now (list .entry))) ⌝ }
 {
-    let mut operands: usize = 0;
+    let mut operands: usize = 1;
     let mut i = to;
     while i < list.len() {
-        if UNION <= list[i] {
-            if operands < 2 {
-                return i;
-            }
-            operands -= 1;
-            i += 1;
+        operands = if UNION <= list[i] {
+            operands - 1
         } else {
-            operands += 1;
-            i += 1;
+            operands + 1
+        };
+        if operands <= 1 {
+            return i;
         }
+        i += 1;
     }
     i
 }
@@ -179,13 +178,13 @@ fn scan_backward(list: &[u16], to: usize) -> usize
     let mut i = to;
     while 0 < i {
         i -= 1;
-        if UNION <= list[i] {
-            operands += 1;
+        operands = if UNION <= list[i] {
+            operands + 1
         } else {
-            if operands <= 1 {
-                return i;
-            }
-            operands -= 1;
+            operands - 1
+        };
+        if operands == 0 {
+            return i;
         }
     }
     i

@@ -1,7 +1,8 @@
 -- `tree::scan_backward` meets its contract: the scan back from `i` with that many operands to pass comes to where that from `to` with 1 does.
-use mathlib.Core.Path.{_≡_, sym, _∙_}
+use mathlib.Core.Path.{_≡_, sym, ap, _∙_}
+use mathlib.Core.Logic.{inl, inr}
 use mathlib.Core.List.{reverse}
-use Prim.Native.Nat.{_+_, _≤_, _<_}
+use Prim.Native.Nat.{ℕ, _+_, _-_, _≤_, _<_}
 use native.Mathlib.Omega.{arith}
 use borrow.Author.Needs.{needs}
 use lib.ListN.{length, take}
@@ -31,34 +32,36 @@ shared-slice-read-if1 c = search needs
 add-operands : tie.Need-add-operands Inv-loop μ-loop
 add-operands c = search needs
 
+sub-operands : tie.Need-sub-operands Inv-loop μ-loop
+sub-operands c = search needs
+
+returns : tie.Need-returns Inv-loop μ-loop
+returns c =
+    let l = c .before .before .before .before in
+    let list = l .before .args .list .now in
+    let w = c .before .before .before .loop-test .taken in
+    let inv = l .loop .inv in
+    elim (c .before .if1 .came) [
+      | inl p ↦ absurd (let z = p .1 in omega (arith, c .if2 .taken))
+      | inr p ↦ sym (backward-stop list (l .loop .i) (l .loop .operands) w (inv .0) (p .0 .left) (let z = p .1 in omega (arith, c .if2 .taken))) ∙ inv .3
+    ]
+
 loop-less : tie.Need-loop-less Inv-loop μ-loop
 loop-less c = search needs
 
 loop-again : tie.Need-loop-again Inv-loop μ-loop
 loop-again c =
-    let l = c .before .before .before in
-    let w = c .before .before .loop-test .taken in
-    (omega arith, omega arith, omega arith, sym (backward-operator (l .before .args .list .now) (l .loop .i) (l .loop .operands) w (l .loop .inv .0) (c .if1 .taken)) ∙ l .loop .inv .3)
-
-returns : tie.Need-returns Inv-loop μ-loop
-returns c =
-    let loop-test = c .before .before .before .loop-test in
     let l = c .before .before .before .before in
-    let w = loop-test .taken in
-    sym (backward-stop (l .before .args .list .now) (l .loop .i) (l .loop .operands) w (l .loop .inv .0) (c .before .if1 .left) (c .if2 .taken)) ∙ l .loop .inv .3
-
-sub-operands : tie.Need-sub-operands Inv-loop μ-loop
-sub-operands c = search needs
-
-loop-less-2 : tie.Need-loop-less-2 Inv-loop μ-loop
-loop-less-2 c = search needs
-
-loop-again-2 : tie.Need-loop-again-2 Inv-loop μ-loop
-loop-again-2 c =
-    let loop-test = c .before .before .before .loop-test in
-    let l = c .before .before .before .before in
-    let w = loop-test .taken in
-    (omega arith, omega arith, omega arith, sym (backward-leaf (l .before .args .list .now) (l .loop .i) (l .loop .operands) w (l .loop .inv .0) (c .before .if1 .left) (c .if2 .left)) ∙ l .loop .inv .3)
+    let list = l .before .args .list .now in
+    let w = c .before .before .before .loop-test .taken in
+    let inv = l .loop .inv in
+    let rest = reverse (take (l .loop .i - 1) list) in
+    elim (c .before .if1 .came) [
+      | inl p ↦ let z = p .1 in
+          (omega arith, omega arith, omega arith, ap (λ (n : ℕ). backward n rest) z ∙ sym (backward-operator list (l .loop .i) (l .loop .operands) w (inv .0) (p .0 .taken)) ∙ inv .3)
+      | inr p ↦ let z = p .1 in
+          (omega arith, omega (arith, c .if2 .left), omega arith, ap (λ (n : ℕ). backward n rest) z ∙ sym (backward-leaf list (l .loop .i) (l .loop .operands) w (inv .0) (p .0 .left) (omega (arith, c .if2 .left))) ∙ inv .3)
+    ]
 
 returns-2 : tie.Need-returns-2 Inv-loop μ-loop
 returns-2 c =
@@ -76,10 +79,8 @@ scan-backward-spec =
     mul-if1
     shared-slice-read-if1
     add-operands
+    sub-operands
+    returns
     loop-less
     loop-again
-    returns
-    sub-operands
-    loop-less-2
-    loop-again-2
     returns-2)
