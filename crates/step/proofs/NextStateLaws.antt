@@ -2,7 +2,7 @@
 use mathlib.Core.Path.{_≡_, refl, sym, ap, _∙_}
 use mathlib.Core.Option.{Option, some, none}
 use mathlib.Core.List.{List, [], _∷_, _++_, map, map-append, append-assoc}
-use Prim.Native.Nat.{ℕ}
+use Prim.Native.Nat.{ℕ, _≤_}
 use native.Mathlib.Omega.{arith}
 use lib.ListN.{length, length-append}
 use Rattle.tree.specs.Tree.{Operator, union, difference, intersection, Basic, plus, minus, operatorOf, Tree, node}
@@ -10,7 +10,8 @@ use Rattle.tree.specs.Context.{Side, left, right, Frame, frame}
 use Rattle.moves.specs.Moves.{Formula, Move, replaceT, replaceTWithD, State, moveOf, basic, stateWith, inputA, inputOf, inputWith, under, value, framesOf}
 use Rattle.moves.specs.NextState.{Kind, kind, kindOfFrame, kindOfInput, kindsAbove, stateBelow, stateIn, leftAbove, stateAfter}
 use Rattle.moves.proofs.NextStateLaws.{two-left, map-above}
-use Rattle.step.specs.Step.{moved, needs, step, stepBy}
+use Rattle.step.specs.Step.{blocked, moved, needs, step, stepBy}
+use Rattle.step.proofs.StepLaws.{step-level}
 
 -- the frames of an entry, and then others
 entry-kinds : (b c d : Tree) (p : Formula) (r : List Frame) → map kindOfFrame (framesOf b c d p ++ r) ≡ kindsAbove p ++ map kindOfFrame r
@@ -76,3 +77,15 @@ pub next-state : (s : Side) (o : Operator) (t : Side) (q : Operator) (u : Side) 
 unfolding step
 next-state s o t q u w b c d r e x i h =
     by-operator b c d u r e x w (sym (ap (λ (y : Option State). needs y (λ x. stepBy (moveOf x) b c (frame u w d ∷ r))) i) ∙ h)
+
+-- request 6: the step after one under an `I` is refused with 27
+no-state-blocked : (e : List Frame) → 2 ≤ length e → stateIn e ≡ none → step e ≡ blocked
+unfolding step
+no-state-blocked [] h n = absurd (omega arith)
+no-state-blocked (f ∷ []) h n = absurd (omega arith)
+no-state-blocked (frame s o b ∷ (frame t q c ∷ r)) h n = ap (λ (y : Option State). needs y (λ x. stepBy (moveOf x) b c r)) n
+
+pub next-blocked : (s : Side) (o : Operator) (t : Side) (q : Operator) (u : Side) (b c d : Tree) (r e : List Frame) (x : State)
+    → stateWith s (basic o) t (basic q) ≡ some x → step (frame s o b ∷ (frame t q c ∷ (frame u intersection d ∷ r))) ≡ moved e → step e ≡ blocked
+next-blocked s o t q u b c d r e x i h =
+    no-state-blocked e (omega (arith, step-level (frame s o b ∷ (frame t q c ∷ (frame u intersection d ∷ r))) e h)) (next-state s o t q u intersection b c d r e x i h)
