@@ -48,19 +48,19 @@ inputOf left minus = inputB
 inputOf right plus = inputC
 inputOf right minus = inputD
 
--- a tree's operator as one of these two; an `I` is neither
+-- a tree's operator as one of these two; request 6's `I` is neither
 abbrev pub basic : Operator → Option Basic
 basic union = some plus
 basic difference = some minus
 basic intersection = none
 
--- the state, where neither is an `I`
+-- the state, by the parent's operator and the grandparent's; request 6: none where one of them "is an `I`"
 abbrev pub stateWith : Side → Option Basic → Side → Option Basic → Option State
 stateWith s (some o) t (some q) = some (stateOf s o t q)
 stateWith s (some o) t none = none
 stateWith s none t q = none
 
--- the input, where it is none
+-- the input, by the operator of the node above T; request 6: none where that "is an `I`"
 abbrev pub inputWith : Side → Option Basic → Option Input
 inputWith u (some w) = some (inputOf u w)
 inputWith u none = none
