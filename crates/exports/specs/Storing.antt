@@ -6,6 +6,7 @@ use lib.ListN.{length, getD}
 use lib.Seq.{sets}
 use Rattle.common.specs.Answer.{Answer, done, refusedWith, answerBy}
 use Rattle.tree.specs.Parse.{treeOf}
+use Rattle.moves.specs.Moves.{ours}
 use Rattle.lift.specs.Lift.{liftOf}
 use Rattle.lift.specs.Answer.{resultSays, liftBuffer}
 use Rattle.gather.specs.Answer.{gatheringSays, Gathers}
@@ -29,8 +30,8 @@ withAnswer a array =
 
 -- `lift`: what it leaves in the buffer, and its answer
 pub record LiftCall (tree : List ℕ) (position levels : ℕ) (out out′ answer answer′ : List ℕ) : Type 0 where
-  pub leaves : out′ ≡ liftBuffer (liftOf (length out) tree position levels) out
-  pub stores : answer′ ≡ withAnswer (resultSays (liftOf (length out) tree position levels)) answer
+  pub leaves : out′ ≡ liftBuffer (liftOf ours (length out) tree position levels) out
+  pub stores : answer′ ≡ withAnswer (resultSays (liftOf ours (length out) tree position levels)) answer
 
 -- "only the gathered tree may vary"
 pub record GatherCall (tree marks out out′ answer answer′ : List ℕ) : Type 0 where

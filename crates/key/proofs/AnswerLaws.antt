@@ -14,14 +14,16 @@ use Rattle.tree.proofs.TreeLaws.{postfix-length}
 use Rattle.tree.proofs.GroupLaws.{groups-leaves}
 use Rattle.text.specs.Line.{line, lines}
 use Rattle.text.proofs.LineLaws.{lines-append}
+use Rattle.moves.specs.Moves.{MoveTable}
+use Rattle.moves.proofs.MoveLaws.{Right}
 use Rattle.sheet.specs.Rules.{sheetRules}
 use Rattle.sheet.specs.Reading.{ReadingState, ReadingOutcome, accepted, refused, reading, sheetOf}
 use Rattle.sheet.specs.declared.Sheet.{Sheet}
 use Rattle.sheet.proofs.AcceptedLaws.{accepted-sheet, accepted-short, answered-tree, answered-marks, answered-long, number-accepted, number-refused, Accepted}
-use Rattle.printing.specs.Key.{NO, text, liftRows, heldRows, instructionRows}
+use Rattle.printing.specs.Key.{NO, Key, refusal, text, liftRows, heldRows, instructionRows}
 use Rattle.lift_lines.specs.Lifting.{treeAfter, liftAnswers}
 use Rattle.key.specs.Call.{keyBytes, KeyOf, keySays, KeyCall}
-use Rattle.key.specs.InnerKeyOf.{heldBy, codeBy, keyIn, keyFor, keyBy, keyOf, KeyBy}
+use Rattle.key.specs.InnerKeyOf.{heldBy, codeBy, keyIn, keyFor, keyBy, KeyBy}
 use Rattle.lift_lines.specs.Inner.{liftBytes, IsList, Asked, LiftedAll}
 use Rattle.key.specs.Inner.{Markable, Finished, ReadAs, WroteKey}
 use Rattle.lift_lines.specs.declared.Progress.{Progress}
@@ -47,23 +49,28 @@ module _ (s : List ℕ) (st : ReadingState) (e : reading s ≡ accepted st) (A :
     among = λ g k. groups-leaves (A .tree) g ∙ A .marked g k;
   }
 
-  pub marks-left : Markable (treeAfter (A .tree) (st .lifts)) (st .marks)
-  marks-left = markable-keeps (after-keeps (A .tree) (st .lifts) (A .nodes)) marks-in
+  pub marks-left : {m : MoveTable} → Right m → Markable (treeAfter m (A .tree) (st .lifts)) (st .marks)
+  marks-left R = markable-keeps (after-keeps R (A .tree) (st .lifts) (A .nodes)) marks-in
 
   -- the lifts' lines, then the rest
-  pub answered : {tree′ out out₁ out₂ : List ℕ} {r : Progress} {next : ℕ} → LiftedAll (A .tree) (st .lifts) tree′ r out out₁
-      → Finished (treeAfter (A .tree) (st .lifts)) (st .marks) out₁ (r .next) out₂ next → WroteKey (accepted st) out out₂ next
-  answered L F =
-      let u = treeAfter (A .tree) (st .lifts) in
+  pub answered : {m : MoveTable} → Right m → {tree′ out out₁ out₂ : List ℕ} {r : Progress} {next : ℕ} → LiftedAll m (A .tree) (st .lifts) tree′ r out out₁
+      → Finished (treeAfter m (A .tree) (st .lifts)) (st .marks) out₁ (r .next) out₂ next → WroteKey m (accepted st) out out₂ next
+  answered {m} R L F =
+      let u = treeAfter m (A .tree) (st .lifts) in
       let held = heldBy u (st .marks) in
       let is = codeBy u (st .marks) in
       record {
-        answers = subst (λ (o : Option Tree). KeyOf (accepted st) (keyIn st o)) (sym (A .is))
-            (A .tree, A .is, demand-3 (A .tree) (st .marks) (st .lifts) (A .nodes) held is (F .ends));
+        answers = subst (λ (o : Option Tree). KeyOf m (accepted st) (keyIn m st o)) (sym (A .is))
+            (A .tree, A .is, demand-3 R (A .tree) (st .marks) (st .lifts) (A .nodes) held is (F .ends));
         wrote = wrote-as (wrote-then (L .wrote) (F .wrote))
-            (unfold text keyBy in sym (lines-append (liftRows (liftAnswers (A .tree) (st .lifts))) (heldRows held ++ instructionRows is)) ∙ ap (λ (o : Option Tree). text (keyIn st o)) (sym (A .is)));
+            (unfold text keyBy in sym (lines-append (liftRows (liftAnswers m (A .tree) (st .lifts))) (heldRows held ++ instructionRows is)) ∙ ap (λ (o : Option Tree). text (keyIn m st o)) (sym (A .is)));
         most = omega (arith, L .most, F .most, few-lifts);
       }
+
+-- a refusal's line is its text
+pub refusal-text : (number at : ℕ) → line NO (number ∷ at ∷ []) ≡ text (refusal number at)
+unfolding text lines
+refusal-text number at = sym (append-nil (line NO (number ∷ at ∷ [])))
 
 -- ---- what `read` answers for such a sheet
 pub record IsRead (s : List ℕ) (st : ReadingState) (read : Sheet) : Type 0 where
@@ -106,42 +113,50 @@ module _ {s : List ℕ} {st : ReadingState} {read : Sheet} (I : IsRead s st read
       let c : tree ≡ over (postfix (I .has .tree)) zeros = wrote-over (wrote-as w (I .list)) (omega (arith, n, I .most)) in
       record { list = rw c (take-over (postfix (I .has .tree)) zeros (read .nodes) (I .counted ∙ sym n)); most = I .most }
 
-  pub read-marks : Markable (treeAfter (I .has .tree) (st .lifts)) (take (read .marked) (read .marks))
-  read-marks = rw (I .marks) (marks-left s st (I .is) (I .has))
+  pub read-marks : {m : MoveTable} → Right m → Markable (treeAfter m (I .has .tree) (st .lifts)) (take (read .marked) (read .marks))
+  read-marks R = rw (I .marks) (marks-left s st (I .is) (I .has) R)
 
-  pub read-answered : {tree′ out out₁ out₂ : List ℕ} {r : Progress} {next : ℕ} → LiftedAll (I .has .tree) (st .lifts) tree′ r out out₁
-      → Finished (treeAfter (I .has .tree) (st .lifts)) (take (read .marked) (read .marks)) out₁ (r .next) out₂ next → WroteKey (accepted st) out out₂ next
-  read-answered L F = answered s st (I .is) (I .has) L (rw (I .marks) at F)
+  pub read-answered : {m : MoveTable} → Right m → {tree′ out out₁ out₂ : List ℕ} {r : Progress} {next : ℕ} → LiftedAll m (I .has .tree) (st .lifts) tree′ r out out₁
+      → Finished (treeAfter m (I .has .tree) (st .lifts)) (take (read .marked) (read .marks)) out₁ (r .next) out₂ next → WroteKey m (accepted st) out out₂ next
+  read-answered R L F = answered s st (I .is) (I .has) R L (rw (I .marks) at F)
 
-  pub read-most : {tree′ out out₁ : List ℕ} {r : Progress} → LiftedAll (I .has .tree) (st .lifts) tree′ r out out₁ → r .next ≤ 160000
+  pub read-most : {m : MoveTable} {tree′ out out₁ : List ℕ} {r : Progress} → LiftedAll m (I .has .tree) (st .lifts) tree′ r out out₁ → r .next ≤ 160000
   read-most L = omega (arith, L .most, I .few, I .asks .counted)
 
--- ---- the contract of `key`: both promises
-abbrev pub Keys : List ℕ → List ℕ → KeyAnswer → List ℕ → Type 0
-Keys s out r out′ = KeyCall s out r out′ × KeyBy s out r out′
-
-pub call-written : {s out out′ : List ℕ} {n : ℕ} {o : ReadingOutcome} → reading s ≡ o → keyBytes ≤ length out → WroteKey o out out′ n → Keys s out (Written n) out′
-unfolding keyBy
-call-written {s} {out} {out′} {n} e room k =
-    let W : WroteKey (reading s) out out′ n = subst (λ (o : ReadingOutcome). WroteKey o out out′ n) (sym e) k in
-    let w = W .wrote in
-    let says : keySays (Written n) ≡ some (done (length (keyOf s) ∷ [])) = ap (λ (m : ℕ). some (done (m ∷ []))) (let z : n ≡ length (keyOf s) = omega (arith, w .ends) in z) in
-    let written : out′ ≡ over (keyOf s) out = wrote-over w (omega (arith, w .ends, W .most)) in (
-      record { short = λ h. absurd (omega arith); long = λ h. record { key = keyFor (reading s); answers = W .answers; says = says; written = written } },
-      record { by = λ h. (says, written) },
-    )
-
-pub call-short : (s out : List ℕ) → length out < keyBytes → Keys s out Short out
-call-short s out h = (record { short = λ _. (refl, refl); long = λ k. absurd (omega arith) }, record { by = λ k. absurd (omega arith) })
-
+-- ---- a sheet of any bytes: accepted, or refused
 pub accepted-read : (s : List ℕ) (read : Sheet) → read ≡ sheetOf (reading s) → read .number ≡ 0 → (st : ReadingState) × ReadAs s read st
 accepted-read s read e z =
     let n = number-accepted s (ap (λ (x : Sheet). x .number) (sym e) ∙ z) in
     (n .0, record { accepts = n .1; answers = e ∙ ap sheetOf (n .1) })
 
-pub call-refused : (s out out′ : List ℕ) (n : ℕ) (read : Sheet) → read ≡ sheetOf (reading s) → (read .number ≡ 0 → ⊥) → keyBytes ≤ length out → n ≤ keyBytes
-    → Wrote out 0 out′ n (line NO (read .number ∷ read .line ∷ [])) → Keys s out (Written n) out′
-call-refused s out out′ n read e z room most w =
+pub wrote-refused : (m : MoveTable) (s out out′ : List ℕ) (n : ℕ) (read : Sheet) → read ≡ sheetOf (reading s) → (read .number ≡ 0 → ⊥) → n ≤ keyBytes
+    → Wrote out 0 out′ n (line NO (read .number ∷ read .line ∷ [])) → WroteKey m (reading s) out out′ n
+wrote-refused m s out out′ n read e z most w =
     let q : reading s ≡ refused (read .number) (read .line) = rw (← e) at (number-refused s (rw e at z)) in
-    call-written q room
-    (record { answers = refl; wrote = wrote-as w (unfold text lines keyBy in sym (append-nil (line NO (read .number ∷ read .line ∷ [])))); most = most })
+    subst (λ (o : ReadingOutcome). WroteKey m o out out′ n) (sym q) (record { answers = refl; wrote = unfold keyBy in wrote-as w (refusal-text (read .number) (read .line)); most = most })
+
+pub wrote-accepted : (m : MoveTable) (s : List ℕ) {out out′ : List ℕ} {n : ℕ} {o : ReadingOutcome} → reading s ≡ o → WroteKey m o out out′ n → WroteKey m (reading s) out out′ n
+wrote-accepted m s {out} {out′} {n} e W = subst (λ (o : ReadingOutcome). WroteKey m o out out′ n) (sym e) W
+
+-- ---- the contract of a call: both promises
+abbrev pub Keys : (Key → Type 0) → List ℕ → List ℕ → KeyAnswer → List ℕ → Type 0
+Keys IsKey bytes out r out′ = KeyCall IsKey out r out′ × KeyBy bytes out r out′
+
+-- a key was written
+pub call-written : (IsKey : Key → Type 0) (k : Key) {out out′ : List ℕ} {n : ℕ} → IsKey k → keyBytes ≤ length out → n ≤ keyBytes → Wrote out 0 out′ n (text k)
+    → Keys IsKey (text k) out (Written n) out′
+call-written IsKey k {out} {out′} {n} answers room most w =
+    let says : keySays (Written n) ≡ some (done (length (text k) ∷ [])) = ap (λ (m : ℕ). some (done (m ∷ []))) (let z : n ≡ length (text k) = omega (arith, w .ends) in z) in
+    let written : out′ ≡ over (text k) out = wrote-over w (omega (arith, w .ends, most)) in (
+      record { short = λ h. absurd (omega arith); long = λ h. record { key = k; answers = answers; says = says; written = written } },
+      record { by = λ h. (says, written) },
+    )
+
+pub call-short : (IsKey : Key → Type 0) (bytes out : List ℕ) → length out < keyBytes → Keys IsKey bytes out Short out
+call-short IsKey bytes out h = (record { short = λ _. (refl, refl); long = λ k. absurd (omega arith) }, record { by = λ k. absurd (omega arith) })
+
+-- by a table
+pub call-by : (m : MoveTable) (s : List ℕ) {out out′ : List ℕ} {n : ℕ} → keyBytes ≤ length out → WroteKey m (reading s) out out′ n
+    → Keys (KeyOf m (reading s)) (keyBy m (reading s)) out (Written n) out′
+unfolding keyBy
+call-by m s room W = call-written (KeyOf m (reading s)) (keyFor m (reading s)) (W .answers) room (W .most) (W .wrote)

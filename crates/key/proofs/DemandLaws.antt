@@ -17,6 +17,8 @@ use Rattle.code.specs.Effects.{Every, Names, stretch, ClosedRun, LoadsApart}
 use Rattle.code.proofs.Theorems.{thirteen-suffice, run-own, closed-run, loads-apart, code-lights}
 use Rattle.gather.specs.Gathering.{CannotBeGathered}
 use Rattle.printing.specs.Key.{Held, unmarked, heldRun, cannot}
+use Rattle.moves.specs.Moves.{MoveTable}
+use Rattle.moves.proofs.MoveLaws.{Right}
 use Rattle.sheet.specs.Reading.{LiftLine}
 use Rattle.lift_lines.specs.Lifting.{treeAfter, liftAnswers}
 use Rattle.key.specs.Demand.{HeldCode, HolderRun, Lights, Demand3}
@@ -27,7 +29,7 @@ differ : {X : Type 0} → _≡_ {A = ℕ} 0 1 → X
 differ e = absurd (omega arith)
 
 -- equivalent trees are gathered by the same trees
-never-alike : {m : ℕ → Bool} {t u : Tree} → Equivalent t u → CannotBeGathered m u → CannotBeGathered m t
+never-alike : {marked : ℕ → Bool} {t u : Tree} → Equivalent t u → CannotBeGathered marked u → CannotBeGathered marked t
 never-alike e c = record { never = λ w p f g. c .never w p (equivalent-trans (equivalent-sym e) f) g }
 
 -- the player lights what an equivalent tree selects
@@ -63,8 +65,8 @@ module _ (t u : Tree) (e : Equivalent t u) (marks : List ℕ) (first count : ℕ
         apart = of-run (λ x f n. LoadsApart (isIn marks) x f n) (loads-apart h c (isIn marks) (H .gathered .marked) (H .gathered .others));
       }
 
-  held-demand : (ls : List LiftLine) → u ≡ treeAfter t ls → Demand3 t marks ls (liftAnswers t ls) (heldRun first count) is
-  held-demand ls same = record {
+  held-demand : (m : MoveTable) (ls : List LiftLine) → u ≡ treeAfter m t ls → Demand3 m t marks ls (liftAnswers m t ls) (heldRun first count) is
+  held-demand m ls same = record {
     lifts = refl;
     plain = λ z. absurd (omega (arith, ap (length {A = ℕ}) z));
     marked = λ q. differ cc;
@@ -76,24 +78,24 @@ module _ (t u : Tree) (e : Equivalent t u) (marks : List ℕ) (first count : ℕ
     none = λ q. differ cc;
   }
 
-plain-demand : (t : Tree) (marks : List ℕ) (ls : List LiftLine) → size t ≤ mostNodes → marks ≡ [] → Demand3 t marks ls (liftAnswers t ls) unmarked (code (treeAfter t ls) 0)
-plain-demand t marks ls h none =
-    let K = after-keeps t ls h in
+plain-demand : {m : MoveTable} → Right m → (t : Tree) (marks : List ℕ) (ls : List LiftLine) → size t ≤ mostNodes → marks ≡ [] → Demand3 m t marks ls (liftAnswers m t ls) unmarked (code (treeAfter m t ls) 0)
+plain-demand {m} R t marks ls h none =
+    let K = after-keeps R t ls h in
     record {
       lifts = refl;
       plain = λ _. (refl, refl);
       marked = λ _. none;
       run = λ f c q. differ cc;
-      lit = λ _. lights t (treeAfter t ls) (equivalent-sym (K .equivalent)) (K .most);
-      registers = thirteen-suffice (treeAfter t ls) (K .most);
+      lit = λ _. lights t (treeAfter m t ls) (equivalent-sym (K .equivalent)) (K .most);
+      registers = thirteen-suffice (treeAfter m t ls) (K .most);
       never = λ q. differ cc;
       always = λ k C. absurd (omega (arith, ap (length {A = ℕ}) none));
       none = λ q. differ cc;
     }
 
-never-demand : (t : Tree) (marks : List ℕ) (ls : List LiftLine) → size t ≤ mostNodes → 1 ≤ length marks → CannotBeGathered (isIn marks) (treeAfter t ls)
-    → Demand3 t marks ls (liftAnswers t ls) cannot []
-never-demand t marks ls h some-mark C =
+never-demand : {m : MoveTable} → Right m → (t : Tree) (marks : List ℕ) (ls : List LiftLine) → size t ≤ mostNodes → 1 ≤ length marks → CannotBeGathered (isIn marks) (treeAfter m t ls)
+    → Demand3 m t marks ls (liftAnswers m t ls) cannot []
+never-demand {m} R t marks ls h some-mark C =
     record {
       lifts = refl;
       plain = λ z. absurd (omega (arith, ap (length {A = ℕ}) z));
@@ -101,16 +103,16 @@ never-demand t marks ls h some-mark C =
       run = λ f c q. differ cc;
       lit = λ n. absurd (n refl);
       registers = unfold Every in tt;
-      never = λ _. never-alike (equivalent-sym (after-keeps t ls h .equivalent)) C;
+      never = λ _. never-alike (equivalent-sym (after-keeps R t ls h .equivalent)) C;
       always = λ k D. refl;
       none = λ _. refl;
     }
 
 -- THE THIRD DEMAND: for every tree as written within the limit, every list of marks and every list of lifts, of what the key says
 -- of the lifts and of what follows them
-pub demand-3 : (t : Tree) (marks : List ℕ) (ls : List LiftLine) → size t ≤ mostNodes → (held : Held) (is : List Instruction)
-    → Ends (treeAfter t ls) marks held is → Demand3 t marks ls (liftAnswers t ls) held is
-demand-3 t marks ls h unmarked is E = rw (E .1) (plain-demand t marks ls h (E .0))
-demand-3 t marks ls h (heldRun first count) is E =
-    held-demand t (treeAfter t ls) (equivalent-sym (after-keeps t ls h .equivalent)) marks first count is (E .0) (E .1) ls refl
-demand-3 t marks ls h cannot is E = rw (E .2) (never-demand t marks ls h (E .0) (E .1))
+pub demand-3 : {m : MoveTable} → Right m → (t : Tree) (marks : List ℕ) (ls : List LiftLine) → size t ≤ mostNodes → (held : Held) (is : List Instruction)
+    → Ends (treeAfter m t ls) marks held is → Demand3 m t marks ls (liftAnswers m t ls) held is
+demand-3 R t marks ls h unmarked is E = rw (E .1) (plain-demand R t marks ls h (E .0))
+demand-3 {m} R t marks ls h (heldRun first count) is E =
+    held-demand t (treeAfter m t ls) (equivalent-sym (after-keeps R t ls h .equivalent)) marks first count is (E .0) (E .1) m ls refl
+demand-3 R t marks ls h cannot is E = rw (E .2) (never-demand R t marks ls h (E .0) (E .1))

@@ -13,6 +13,8 @@ use Rattle.code.proofs.CodeLaws.{NotBoth, without-both}
 use Rattle.coder.specs.Coding.{codeOfList}
 use Rattle.gather.specs.InnerGathered.{gatheredBy}
 use Rattle.gather.proofs.GatheredLaws.{gathered-plain}
+use Rattle.moves.specs.Moves.{ours}
+use Rattle.moves.proofs.MoveLaws.{ours-right}
 use Rattle.sheet.specs.Rules.{twoOperatorRules, sheetRules}
 use Rattle.sheet.specs.Reading.{ReadingState, accepted, readWith}
 use Rattle.sheet.proofs.RulesLaws.{stricter-accepts, third-operator}
@@ -36,11 +38,11 @@ code-without u (m ∷ marks) w = go (gatheredBy u (m ∷ marks)) refl
     go none e = tt
     go (some g) e = without-both g 0 (gathered-plain u (m ∷ marks) g e w)
 
-pub older-key : (s : List ℕ) (st : ReadingState) → readWith twoOperatorRules s ≡ accepted st → (keyOf s ≡ text (keyFor (accepted st))) × SaysNothingNew (keyFor (accepted st))
+pub older-key : (s : List ℕ) (st : ReadingState) → readWith twoOperatorRules s ≡ accepted st → (keyOf s ≡ text (keyFor ours (accepted st))) × SaysNothingNew (keyFor ours (accepted st))
 unfolding keyBy
-older-key s st e = (ap (λ o. text (keyFor o)) (stricter-accepts twoOperatorRules sheetRules third-operator s st e), go (treeOf (st .entries)) refl)
+older-key s st e = (ap (λ o. text (keyFor ours o)) (stricter-accepts twoOperatorRules sheetRules third-operator s st e), go (treeOf (st .entries)) refl)
   where
-    go : (o : Option Tree) → treeOf (st .entries) ≡ o → SaysNothingNew (keyIn st o)
+    go : (o : Option Tree) → treeOf (st .entries) ≡ o → SaysNothingNew (keyIn ours st o)
     go none q = tt
     go (some t) q =
         let w : WithoutIntersection t = accepted-without twoOperatorRules refl (omega arith) s st e t q in
@@ -48,4 +50,4 @@ older-key s st e = (ap (λ o. text (keyFor o)) (stricter-accepts twoOperatorRule
         let same : some (I .tree) ≡ some t = sym (I .is) ∙ q in
         let z : I .tree ≡ t = cc in
         let m : size t ≤ mostNodes = subst (λ (x : Tree). size x ≤ mostNodes) z (I .most) in
-        (never-27 t (st .lifts) m w, code-without (treeAfter t (st .lifts)) (st .marks) (after-keeps t (st .lifts) m .without w))
+        (never-27 ours-right t (st .lifts) m w, code-without (treeAfter ours t (st .lifts)) (st .marks) (after-keeps ours-right t (st .lifts) m .without w))

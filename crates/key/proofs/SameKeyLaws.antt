@@ -5,6 +5,7 @@ use mathlib.Core.Logic.{_⊎_, inl, inr}
 use mathlib.Core.List.{List}
 use Prim.Native.Nat.{ℕ, _+_}
 use native.Mathlib.Omega.{arith}
+use Rattle.moves.specs.Moves.{ours}
 use Rattle.sheet.specs.Rules.{Rules, Stricter, baseRules, earlierRules, twoOperatorRules, sheetRules}
 use Rattle.sheet.specs.Reading.{ReadingState, accepted, refused, readWith, reading}
 use Rattle.sheet.proofs.RulesLaws.{Outcomes, same, no-node, no-group, no-task, no-intersection, two-rules, stricter-accepts, fewer-nodes, more-groups, third-operator}
@@ -12,7 +13,7 @@ use Rattle.key.specs.InnerKeyOf.{keyBy, keyWith, keyOf}
 
 -- a sheet that rules accept has the same key by looser ones
 pub same-key : (few more : Rules) → Stricter few more → (s : List ℕ) (st : ReadingState) → readWith few s ≡ accepted st → keyWith few s ≡ keyWith more s
-same-key few more h s st e = ap keyBy (e ∙ sym (stricter-accepts few more h s st e))
+same-key few more h s st e = ap (keyBy ours) (e ∙ sym (stricter-accepts few more h s st e))
 
 -- by rules with as many nodes as today's and with tasks, a sheet that they refuse has its `NO` line to this day, unless that is 2
 pub unless-2 : (few : Rules) → Stricter few sheetRules → few .nodes ≡ sheetRules .nodes → few .tasks ≡ sheetRules .tasks
@@ -20,7 +21,7 @@ pub unless-2 : (few : Rules) → Stricter few sheetRules → few .nodes ≡ shee
 unless-2 few h nodes tasks s = go (two-rules few sheetRules h s)
   where
     go : Outcomes few sheetRules (readWith few s) (reading s) → (keyOf s ≡ keyWith few s) ⊎ ((line : ℕ) × (readWith few s ≡ refused 2 line))
-    go (same e) = inl (ap keyBy (sym e))
+    go (same e) = inl (ap (keyBy ours) (sym e))
     go (no-node l e) = absurd (omega (arith, l))
     go (no-group l line e) = inr (line, e)
     go (no-task a b line e) = absurd (true≢false (sym tasks ∙ a))
@@ -52,7 +53,7 @@ pub keeps-unless-5 : (s : List ℕ) → (keyWith earlierRules s ≡ keyWith base
 keeps-unless-5 s = go (two-rules earlierRules baseRules fewer-nodes s)
   where
     go : Outcomes earlierRules baseRules (readWith earlierRules s) (readWith baseRules s) → (keyWith earlierRules s ≡ keyWith baseRules s) ⊎ (readWith earlierRules s ≡ refused 5 (earlierRules .nodes + 1))
-    go (same e) = inl (ap keyBy e)
+    go (same e) = inl (ap (keyBy ours) e)
     go (no-node l e) = inr e
     go (no-group l line e) = absurd (omega (arith, l))
     go (no-task a b line e) = absurd (true≢false a)

@@ -8,7 +8,8 @@ use Rattle.common.specs.Answer.{Answer, done}
 use Rattle.tree.specs.Tree.{Tree}
 use Rattle.tree.specs.Parse.{treeOf}
 use Rattle.tree.specs.Writing.{over}
-use Rattle.sheet.specs.Reading.{ReadingOutcome, accepted, refused, reading}
+use Rattle.moves.specs.Moves.{MoveTable}
+use Rattle.sheet.specs.Reading.{ReadingOutcome, accepted, refused}
 use Rattle.printing.specs.Key.{Key, refusal, answers, text}
 use Rattle.key.specs.Demand.{Demand3}
 use Rattle.key.specs.declared.KeyAnswer.{KeyAnswer}
@@ -20,11 +21,11 @@ abbrev pub keyBytes : ℕ
 keyBytes = 274691
 
 -- "It reads a sheet .. and prints `NO` number line, or: ..": a refusal for a sheet that reading refuses, and for one that it accepts
--- a key that meets the third demand
-abbrev pub KeyOf : ReadingOutcome → Key → Type 0
-KeyOf (refused number line) k = k ≡ refusal number line
-KeyOf (accepted st) (refusal number line) = ⊥
-KeyOf (accepted st) (answers lifts held is) = (t : Tree) × (treeOf (st .entries) ≡ some t) × Demand3 t (st .marks) (st .lifts) lifts held is
+-- a key that meets the third demand, by a move table
+abbrev pub KeyOf : MoveTable → ReadingOutcome → Key → Type 0
+KeyOf m (refused number line) k = k ≡ refusal number line
+KeyOf m (accepted st) (refusal number line) = ⊥
+KeyOf m (accepted st) (answers lifts held is) = (t : Tree) × (treeOf (st .entries) ≡ some t) × Demand3 m t (st .marks) (st .lifts) lifts held is
 
 -- 01's number and value for each answer: a key of so many bytes is written, also one that is a refusal. That the buffer is too short
 -- for some key is no case of 01 and has no number.
@@ -32,14 +33,14 @@ abbrev pub keySays : KeyAnswer → Option Answer
 keySays (Written count) = some (done (count ∷ []))
 keySays Short = none
 
--- a key of the sheet was written, and nothing past it
-pub record WritesKey (sheet out : List ℕ) (r : KeyAnswer) (out′ : List ℕ) : Type 0 where
+-- a key of which that holds was written, and nothing past it
+pub record WritesKey (IsKey : Key → Type 0) (out : List ℕ) (r : KeyAnswer) (out′ : List ℕ) : Type 0 where
   pub key : Key
-  pub answers : KeyOf (reading sheet) key
+  pub answers : IsKey key
   pub says : keySays r ≡ some (done (length (text key) ∷ []))
   pub written : out′ ≡ over (text key) out
 
--- what `key` promises for any bytes and any buffer
-pub record KeyCall (sheet out : List ℕ) (r : KeyAnswer) (out′ : List ℕ) : Type 0 where
+-- what a call promises that is to write such a key, for any buffer
+pub record KeyCall (IsKey : Key → Type 0) (out : List ℕ) (r : KeyAnswer) (out′ : List ℕ) : Type 0 where
   pub short : length out < keyBytes → (keySays r ≡ none) × (out′ ≡ out)
-  pub long : keyBytes ≤ length out → WritesKey sheet out r out′
+  pub long : keyBytes ≤ length out → WritesKey IsKey out r out′

@@ -16,6 +16,7 @@ use Rattle.code.specs.Code.{code, codePlace, ownCode, runFirst, runCount}
 use Rattle.code.specs.Effects.{Every, Names, stretch, ClosedRun, LoadsApart}
 use Rattle.gather.specs.Gathering.{Gathered, CannotBeGathered}
 use Rattle.printing.specs.Key.{LiftAnswer, Held, unmarked, heldRun, cannot}
+use Rattle.moves.specs.Moves.{MoveTable}
 use Rattle.sheet.specs.Reading.{LiftLine}
 use Rattle.lift_lines.specs.Lifting.{treeAfter, liftAnswers}
 
@@ -52,17 +53,17 @@ Lights t is =
     → (r : Played) (after : List ℕ) → Plays (numbersOf is) patch lamps r after
     → (r ≡ Done) × (after ≡ bytes (selected (rig patch) t) ++ drop byteCount lamps)
 
--- of a key that is not a refusal: its lifts, its HELD line and its instructions, for the tree t as written, the marks and the lifts
-pub record Demand3 (t : Tree) (marks : List ℕ) (ls : List LiftLine) (done : List LiftAnswer) (held : Held) (is : List Instruction) : Type 0 where
+-- of a key by a move table that is not a refusal: its lifts, its HELD line and its instructions, for the tree t as written, the marks and the lifts
+pub record Demand3 (m : MoveTable) (t : Tree) (marks : List ℕ) (ls : List LiftLine) (done : List LiftAnswer) (held : Held) (is : List Instruction) : Type 0 where
   -- (a) "for every list of lifts in it, done or refused, from the tree as written"
-  pub lifts : done ≡ liftAnswers t ls
+  pub lifts : done ≡ liftAnswers m t ls
   -- (b) "Unless the key says `HELD` 19, its instructions are 01's code for the tree that the list leaves": without marks, and then
   -- the key does not say `HELD`
-  pub plain : marks ≡ [] → (held ≡ unmarked) × (is ≡ code (treeAfter t ls) 0)
+  pub plain : marks ≡ [] → (held ≡ unmarked) × (is ≡ code (treeAfter m t ls) 0)
   -- with marks it says `HELD`; the code is that of the tree "gathered where there are marks", and of that same tree
   -- (e) "Where there are marks, the marked groups .. are loaded in one closed run"
   pub marked : held ≡ unmarked → marks ≡ []
-  pub run : (first count : ℕ) → held ≡ heldRun first count → HolderRun (treeAfter t ls) marks first count is
+  pub run : (first count : ℕ) → held ≡ heldRun first count → HolderRun (treeAfter m t ls) marks first count is
   -- (c)
   pub lit : (held ≡ cannot → ⊥) → Lights t is
   -- (d) "No register above 12 is named."

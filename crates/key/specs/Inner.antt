@@ -11,6 +11,7 @@ use Rattle.text.specs.Line.{lines}
 use Rattle.player.specs.Instructions.{Instruction}
 use Rattle.code.specs.Code.{code}
 use Rattle.gather.specs.Gathering.{CannotBeGathered}
+use Rattle.moves.specs.Moves.{MoveTable}
 use Rattle.sheet.specs.Reading.{ReadingState, ReadingOutcome, accepted, reading, sheetOf}
 use Rattle.sheet.specs.declared.Sheet.{Sheet}
 use Rattle.printing.specs.Key.{Held, unmarked, heldRun, cannot, heldRows, instructionRows}
@@ -58,8 +59,8 @@ pub record ReadAs (sheet : List ℕ) (read : Sheet) (st : ReadingState) : Type 0
   pub accepts : reading sheet ≡ accepted st
   pub answers : read ≡ sheetOf (accepted st)
 
--- the whole key of a sheet, by what reading comes to
-pub record WroteKey (o : ReadingOutcome) (out out′ : List ℕ) (next : ℕ) : Type 0 where
-  pub answers : KeyOf o (keyFor o)
-  pub wrote : Wrote out 0 out′ next (keyBy o)
+-- the whole key of a sheet by a table, by what reading comes to
+pub record WroteKey (m : MoveTable) (o : ReadingOutcome) (out out′ : List ℕ) (next : ℕ) : Type 0 where
+  pub answers : KeyOf m o (keyFor m o)
+  pub wrote : Wrote out 0 out′ next (keyBy m o)
   pub most : next ≤ keyBytes

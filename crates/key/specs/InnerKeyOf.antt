@@ -1,4 +1,4 @@
--- The very key that is written, a function of the sheet. 01 leaves the gathered tree free, and with it the key; a reader need not
+-- The very key that is written, a function of the sheet and the table. 01 leaves the gathered tree free, and with it the key; a reader need not
 -- believe a line of this: `KeyCall` says what a key must be.
 use mathlib.Core.Path.{_≡_}
 use mathlib.Core.List.{List, [], _∷_}
@@ -14,6 +14,7 @@ use Rattle.code.specs.Code.{code}
 use Rattle.coder.specs.Coding.{codeOfList, runOf}
 use Rattle.coder.specs.declared.Run.{Run}
 use Rattle.gather.specs.InnerGathered.{gatheredBy, holderOf}
+use Rattle.moves.specs.Moves.{MoveTable, ours}
 use Rattle.sheet.specs.Rules.{Rules, sheetRules}
 use Rattle.sheet.specs.Reading.{ReadingState, ReadingOutcome, accepted, refused, readWith}
 use Rattle.printing.specs.Key.{Held, unmarked, heldRun, cannot, Key, refusal, answers, text}
@@ -42,29 +43,29 @@ codeBy u [] = code u 0
 codeBy u (m ∷ marks) = codeOfList (gatheredBy u (m ∷ marks))
 
 -- ---- the whole
--- of an accepted sheet, by the tree that its entries are (and they are one)
-abbrev pub keyIn : ReadingState → Option Tree → Key
-keyIn st none = refusal 0 0
-keyIn st (some t) =
-    let u = treeAfter t (st .lifts) in
-    answers (liftAnswers t (st .lifts)) (heldBy u (st .marks)) (codeBy u (st .marks))
+-- of an accepted sheet by a table, by the tree that its entries are (and they are one)
+abbrev pub keyIn : MoveTable → ReadingState → Option Tree → Key
+keyIn m st none = refusal 0 0
+keyIn m st (some t) =
+    let u = treeAfter m t (st .lifts) in
+    answers (liftAnswers m t (st .lifts)) (heldBy u (st .marks)) (codeBy u (st .marks))
 
 -- by what reading comes to
-abbrev pub keyFor : ReadingOutcome → Key
-keyFor (refused number line) = refusal number line
-keyFor (accepted st) = keyIn st (treeOf (st .entries))
+abbrev pub keyFor : MoveTable → ReadingOutcome → Key
+keyFor m (refused number line) = refusal number line
+keyFor m (accepted st) = keyIn m st (treeOf (st .entries))
 
 -- the key's bytes
-unfoldable pub keyBy : ReadingOutcome → List ℕ
-keyBy o = text (keyFor o)
+unfoldable pub keyBy : MoveTable → ReadingOutcome → List ℕ
+keyBy m o = text (keyFor m o)
 
--- of a sheet that is read by these rules, and by today's
+-- by our own table, of a sheet that is read by these rules, and by today's
 abbrev pub keyWith : Rules → List ℕ → List ℕ
-keyWith rules sheet = keyBy (readWith rules sheet)
+keyWith rules sheet = keyBy ours (readWith rules sheet)
 
 abbrev pub keyOf : List ℕ → List ℕ
 keyOf sheet = keyWith sheetRules sheet
 
--- where the buffer is long enough, it is these that are written
-pub record KeyBy (sheet out : List ℕ) (r : KeyAnswer) (out′ : List ℕ) : Type 0 where
-  pub by : keyBytes ≤ length out → (keySays r ≡ some (done (length (keyOf sheet) ∷ []))) × (out′ ≡ over (keyOf sheet) out)
+-- where the buffer is long enough, it is these bytes that are written
+pub record KeyBy (bytes out : List ℕ) (r : KeyAnswer) (out′ : List ℕ) : Type 0 where
+  pub by : keyBytes ≤ length out → (keySays r ≡ some (done (length bytes ∷ []))) × (out′ ≡ over bytes out)

@@ -7,6 +7,7 @@ use lib.ListN.{length}
 use Rattle.common.specs.Answer.{done, refusedWith}
 use Rattle.tree.specs.Tree.{Tree, union, difference, sign, mostNodes, Equivalent, isIn}
 use Rattle.tree.specs.Parse.{treeOf}
+use Rattle.moves.specs.Moves.{ours}
 use Rattle.lift.specs.Lift.{liftOf}
 use Rattle.lift.specs.Answer.{resultSays, liftBuffer}
 use Rattle.gather.specs.Gathering.{Gathered, CannotBeGathered}
@@ -20,12 +21,12 @@ D = sign difference
 
 -- the node at this position of this list, lifted by so many levels, gives this list, this position and these looks
 pub record SampleLift (list : List ℕ) (position levels : ℕ) (new : List ℕ) (place looks : ℕ) : Type 0 where
-  pub answers : resultSays (liftOf mostNodes list position levels) ≡ done (length new ∷ place ∷ looks ∷ [])
-  pub writes : liftBuffer (liftOf mostNodes list position levels) [] ≡ new
+  pub answers : resultSays (liftOf ours mostNodes list position levels) ≡ done (length new ∷ place ∷ looks ∷ [])
+  pub writes : liftBuffer (liftOf ours mostNodes list position levels) [] ≡ new
 
 -- or is refused with this number
 abbrev pub SampleRefused : List ℕ → ℕ → ℕ → ℕ → Type 0
-SampleRefused list position levels number = resultSays (liftOf mostNodes list position levels) ≡ refusedWith number
+SampleRefused list position levels number = resultSays (liftOf ours mostNodes list position levels) ≡ refusedWith number
 
 -- with these marks the list's tree has no fault, and some equivalent tree is gathered
 pub record SampleGathered (list marks : List ℕ) : Type 0 where

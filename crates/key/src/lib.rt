@@ -5,10 +5,12 @@ ghost use Rattle.tree.specs.Tree.{Tree, mostNodes};
 ghost use Rattle.tree.specs.InnerWriting.{Wrote};
 ghost use Rattle.text.specs.Line.{lines};
 ghost use Rattle.code.specs.Code.{code as codeOf};
-ghost use Rattle.sheet.specs.Reading.{ReadingState, accepted};
+ghost use Rattle.moves.specs.Moves.{MoveTable, ours};
+ghost use Rattle.moves.specs.InnerEntries.{TableIs, SomeTable};
+ghost use Rattle.sheet.specs.Reading.{ReadingState, accepted, reading};
 ghost use Rattle.printing.specs.Key.{instructionRows};
-ghost use Rattle.key.specs.Call.{keyBytes, KeyCall};
-ghost use Rattle.key.specs.InnerKeyOf.{KeyBy};
+ghost use Rattle.key.specs.Call.{keyBytes, KeyOf, KeyCall};
+ghost use Rattle.key.specs.InnerKeyOf.{keyOf, KeyBy};
 ghost use Rattle.lift_lines.specs.Inner.{IsList};
 ghost use Rattle.key.specs.Inner.{instructionBytes, MarkedTree, Finishes, ReadAs, WroteKey};
 
@@ -54,20 +56,49 @@ fn finish(tree: &[u16], marks: &[u16], out: &mut [u8], at: usize) -> usize
     put_held(tree, marks, out, at)
 }
 
-// The key of a sheet that reading accepts.
-fn answer_sheet(sheet: &[u8], read: sheet::Sheet, out: &mut [u8]) -> usize
-    requires { ⌜ ((st : ReadingState) × ReadAs (now sheet) read st) × (keyBytes ≤ length (now out)) ⌝ }
-    ensures { λ r. ⌜ ((st : ReadingState) → ReadAs (now (sheet .entry)) read st → WroteKey (accepted st) (now (out .entry)) (now (out .exit)) r) ⌝ }
+// The key of a sheet that reading accepts, by the table whose words' signs and lengths are given, without any by ours.
+fn answer_sheet(
+    sheet: &[u8],
+    read: sheet::Sheet,
+    out: &mut [u8],
+    signs: &[u8],
+    lengths: &[u8],
+) -> usize
+    requires { ⌜ ((st : ReadingState) × ReadAs (now sheet) read st) × (keyBytes ≤ length (now out)) × SomeTable (now signs) (now lengths) ⌝ }
+    ensures { λ r. ⌜ ((m : MoveTable) → TableIs m (now (signs .entry)) (now (lengths .entry)) → (st : ReadingState) → ReadAs (now (sheet .entry)) read st
+        → WroteKey m (accepted st) (now (out .entry)) (now (out .exit)) r) ⌝ }
 {
     let mut tree = [0u16; tree::MOST_NODES];
     let entries = read.tree;
     let nodes = read.nodes;
     tree::copy(&entries[..nodes], &mut tree, 0);
-    let done = lift_lines::lift_all(sheet, read.start, read.lifts, &mut tree, nodes, out);
+    let done = lift_lines::lift_all(
+        sheet,
+        read.start,
+        read.lifts,
+        &mut tree,
+        nodes,
+        out,
+        signs,
+        lengths,
+    );
     let left = done.nodes;
     let marks = read.marks;
     let marked = read.marked;
     finish(&tree[..left], &marks[..marked], out, done.next)
+}
+
+// Writes the key of a sheet of any bytes by that table, and returns how many bytes it has.
+fn key_by(sheet: &[u8], out: &mut [u8], signs: &[u8], lengths: &[u8]) -> usize
+    requires { ⌜ (keyBytes ≤ length (now out)) × SomeTable (now signs) (now lengths) ⌝ }
+    ensures { λ r. ⌜ ((m : MoveTable) → TableIs m (now (signs .entry)) (now (lengths .entry)) → WroteKey m (reading (now (sheet .entry))) (now (out .entry)) (now (out .exit)) r) ⌝ }
+{
+    let read = sheet::read(sheet);
+    let number = read.number;
+    if number != 0 {
+        return text::put_line(b"NO", &[number as usize, read.line], out, 0);
+    }
+    answer_sheet(sheet, read, out, signs, lengths)
 }
 
 // The key was written, of so many bytes; or the buffer is too short for some key.
@@ -76,20 +107,15 @@ pub enum KeyAnswer {
     Short,
 }
 
-// Writes the key of a sheet of any bytes into `out`.
+// Writes the key of a sheet of any bytes into `out`, by our own table.
 pub fn key(sheet: &[u8], out: &mut [u8]) -> KeyAnswer
-    ensures { λ r. ⌜ KeyCall (now (sheet .entry)) (now (out .entry)) r (now (out .exit)) ⌝ }
-    ensures by { λ r. ⌜ KeyBy (now (sheet .entry)) (now (out .entry)) r (now (out .exit)) ⌝ }
+    ensures { λ r. ⌜ KeyCall (KeyOf ours (reading (now (sheet .entry)))) (now (out .entry)) r (now (out .exit)) ⌝ }
+    ensures by { λ r. ⌜ KeyBy (keyOf (now (sheet .entry))) (now (out .entry)) r (now (out .exit)) ⌝ }
 {
     if out.len() < KEY_BYTES {
         return KeyAnswer::Short;
     }
-    let read = sheet::read(sheet);
-    let number = read.number;
-    if number != 0 {
-        let next = text::put_line(b"NO", &[number as usize, read.line], out, 0);
-        return KeyAnswer::Written(next);
-    }
-    let next = answer_sheet(sheet, read, out);
+    let nothing = [0u8; 0];
+    let next = key_by(sheet, out, &nothing, &nothing);
     KeyAnswer::Written(next)
 }

@@ -8,6 +8,8 @@ use lib.ListN.{length}
 use Rattle.tree.specs.Tree.{Tree}
 use Rattle.tree.specs.Parse.{treeOf}
 use Rattle.player.specs.Instructions.{Instruction}
+use Rattle.moves.specs.Moves.{MoveTable}
+use Rattle.moves.proofs.MoveLaws.{Right}
 use Rattle.sheet.specs.Reading.{ReadingState, accepted, reading}
 use Rattle.sheet.specs.Typed.{typed}
 use Rattle.printing.specs.Key.{LiftAnswer, heldRun, cannot}
@@ -16,19 +18,19 @@ use Rattle.marking.specs.Marking.{mark, markingSays, Marks}
 use Rattle.marking.specs.declared.Marking.{Marking}
 use Rattle.marking.proofs.Theorems.{right-exactly, right-typed, cannot-be-right}
 
--- a sheet that reading accepts, its tree, and what its key says
-module _ (question : List ℕ) (q : ReadingState) (e : reading question ≡ accepted q) (t : Tree) (is : treeOf (q .entries) ≡ some t) (lifts : List LiftAnswer) (code : List Instruction) where
+-- a sheet that reading accepts, its tree, and what its key by a table says
+module _ (m : MoveTable) (question : List ℕ) (q : ReadingState) (e : reading question ≡ accepted q) (t : Tree) (is : treeOf (q .entries) ≡ some t) (lifts : List LiftAnswer) (code : List Instruction) where
   -- "For a question answered 19 no drawing is ever right."
-  pub answered-19 : Demand3 t (q .marks) (q .lifts) lifts cannot code → (candidate : List ℕ) (r : Marking) → Marks question candidate r → markingSays r ≡ mark 0 → ⊥
+  pub answered-19 : Demand3 m t (q .marks) (q .lifts) lifts cannot code → (candidate : List ℕ) (r : Marking) → Marks question candidate r → markingSays r ≡ mark 0 → ⊥
   answered-19 D = cannot-be-right question q e t is (D .never refl) (some-mark (q .marks) refl)
     where
       some-mark : (marks : List ℕ) → q .marks ≡ marks → 1 ≤ length marks
       some-mark [] z = absurd (let u = D .plain z .0 in let y : _≡_ {A = ℕ} 0 1 = cc in omega arith)
-      some-mark (m ∷ marks) z = omega arith
+      some-mark (g ∷ marks) z = omega arith
 
   -- the tree of the key's code, gathered where there are marks, is right
-  pub key-tree-right : (first count : ℕ) (D : Demand3 t (q .marks) (q .lifts) lifts (heldRun first count) code) (r : Marking)
+  pub key-tree-right : Right m → (first count : ℕ) (D : Demand3 m t (q .marks) (q .lifts) lifts (heldRun first count) code) (r : Marking)
       → Marks question (typed (D .run first count refl .held .tree)) r → markingSays r ≡ mark 0
-  key-tree-right first count D r M =
+  key-tree-right R first count D r M =
       let H = D .run first count refl .held in
-      right-exactly question (typed (H .tree)) r M .always (right-typed question q e t is (H .tree) (H .position) (H .equivalent) (H .gathered) (H .own) (H .most))
+      right-exactly question (typed (H .tree)) r M .always (right-typed question q e t is m R (H .tree) (H .position) (H .equivalent) (H .gathered) (H .own) (H .most))

@@ -1,4 +1,4 @@
--- Laws of a lift: the new tree is equivalent to the given one, has the same groups, and is within the limit; looks are as many as the levels.
+-- Laws of a lift by a right table: the new tree is equivalent to the given one, has the same groups, and is within the limit; looks are as many as the levels.
 use mathlib.Core.Path.{_≡_, refl, sym, subst, _∙_}
 use mathlib.Core.Bool.{Bool, true, false, cond, _||_}
 use mathlib.Core.Option.{Option, some, none}
@@ -14,6 +14,8 @@ use Rattle.tree.specs.Parse.{treeOf, locate}
 use Rattle.tree.proofs.TreeLaws.{equivalent-trans, equivalent-refl, selects-equivalent}
 use Rattle.tree.proofs.ContextLaws.{located-whole, position-most}
 use Rattle.tree.proofs.ParseLaws.{tree-of-sound, tree-of-postfix}
+use Rattle.moves.specs.Moves.{MoveTable}
+use Rattle.moves.proofs.MoveLaws.{Right}
 use Rattle.step.specs.Step.{Outcome, stuck, blocked, moved, step}
 use Rattle.lift.specs.Lift.{Result, refused, lifted, goesOn, steps, liftAt, liftIn, liftOf}
 use Rattle.lift.specs.Answer.{liftedSays, resultSays, Lifts}
@@ -51,34 +53,34 @@ kept-if t levels false number x s h = h refl
 other : (t : Tree) (number : ℕ) → number < 27 → RefusedKeeps t number
 other t number h = record { small = omega arith; not-27 = λ w e. omega arith }
 
-step-keeps : (t a : Tree) (c e : List Frame) → step c ≡ moved e → Keeps t (plug a c) → size (plug a e) ≤ mostNodes → Keeps t (plug a e)
-step-keeps t a c e h K s = record {
-  equivalent = equivalent-trans (selects-equivalent (plug a e) (plug a c) (λ v. step-selects c e h v a)) (K .equivalent);
-  over = λ m o. step-over c e h m a (K .over m o);
-  over-back = λ m o. K .over-back m (step-over-back c e h m a o);
-  without = λ w. step-without c e h a (K .without w);
+step-keeps : {m : MoveTable} → Right m → (t a : Tree) (c e : List Frame) → step m c ≡ moved e → Keeps t (plug a c) → size (plug a e) ≤ mostNodes → Keeps t (plug a e)
+step-keeps R t a c e h K s = record {
+  equivalent = equivalent-trans (selects-equivalent (plug a e) (plug a c) (λ v. step-selects R c e h v a)) (K .equivalent);
+  over = λ m o. step-over R c e h m a (K .over m o);
+  over-back = λ m o. K .over-back m (step-over-back R c e h m a o);
+  without = λ w. step-without R c e h a (K .without w);
   most = s;
 }
 
-steps-keep : (k levels : ℕ) (t a : Tree) (c : List Frame) (looks : ℕ) → looks + k ≡ levels → Keeps t (plug a c) → Kept t levels (steps k a c looks)
+steps-keep : {m : MoveTable} → Right m → (k levels : ℕ) (t a : Tree) (c : List Frame) (looks : ℕ) → looks + k ≡ levels → Keeps t (plug a c) → Kept t levels (steps m k a c looks)
 unfolding steps
-steps-keep zero levels t a c looks q K = record { keeps = K; position-within = position-most a c; looks-are = omega arith }
-steps-keep (suc k) levels t a c looks q K = go (λ e. steps-keep k levels t a e (looks + 1) (omega arith)) (step c) refl
+steps-keep R zero levels t a c looks q K = record { keeps = K; position-within = position-most a c; looks-are = omega arith }
+steps-keep {m} R (suc k) levels t a c looks q K = go (λ e. steps-keep R k levels t a e (looks + 1) (omega arith)) (step m c) refl
   where
-    go : ((e : List Frame) → Keeps t (plug a e) → Kept t levels (steps k a e (looks + 1))) → (o : Outcome) → step c ≡ o
-        → Kept t levels (goesOn o a (λ e. steps k a e (looks + 1)))
+    go : ((e : List Frame) → Keeps t (plug a e) → Kept t levels (steps m k a e (looks + 1))) → (o : Outcome) → step m c ≡ o
+        → Kept t levels (goesOn o a (λ e. steps m k a e (looks + 1)))
     go f stuck h = other t 15 (omega arith)
-    go f blocked h = record { small = omega arith; not-27 = λ w e. never-blocked c a (K .without w) h }
+    go f blocked h = record { small = omega arith; not-27 = λ w e. never-blocked m c a (K .without w) h }
     go f (moved e) h =
-        kept-if t levels (ltb mostNodes (size (plug a e))) 16 (steps k a e (looks + 1)) (other t 16 (omega arith))
-        (λ b. f e (step-keeps t a c e h K (ltb-false mostNodes (size (plug a e)) b)))
+        kept-if t levels (ltb mostNodes (size (plug a e))) 16 (steps m k a e (looks + 1)) (other t 16 (omega arith))
+        (λ b. f e (step-keeps R t a c e h K (ltb-false mostNodes (size (plug a e)) b)))
 
-pub lift-in-keeps : (t : Tree) (p k : ℕ) → size t ≤ mostNodes → Kept t k (liftIn (some t) p k)
-lift-in-keeps t p k s =
-    kept-if t k (leb (size t) p) 13 (liftAt (locate t [] p) k) (other t 13 (omega arith))
+pub lift-in-keeps : {m : MoveTable} → Right m → (t : Tree) (p k : ℕ) → size t ≤ mostNodes → Kept t k (liftIn m (some t) p k)
+lift-in-keeps {m} R t p k s =
+    kept-if t k (leb (size t) p) 13 (liftAt m (locate t [] p) k) (other t 13 (omega arith))
     (λ b. let e : plug (locate t [] p .part) (locate t [] p .above) ≡ t = located-whole t p (leb-false (size t) p b) in
-    kept-if t k (eqb k 0 || leb (length (locate t [] p .above)) k) 14 (steps k (locate t [] p .part) (locate t [] p .above) 0) (other t 14 (omega arith))
-    (λ d. steps-keep k k t (locate t [] p .part) (locate t [] p .above) 0 (omega arith)
+    kept-if t k (eqb k 0 || leb (length (locate t [] p .above)) k) 14 (steps m k (locate t [] p .part) (locate t [] p .above) 0) (other t 14 (omega arith))
+    (λ d. steps-keep R k k t (locate t [] p .part) (locate t [] p .above) 0 (omega arith)
     (subst (Keeps t) (sym e) (record { equivalent = equivalent-refl t; over = λ m o. o; over-back = λ m o. o; without = λ w. w; most = s }))))
 
 -- the whole call, of a list l
@@ -88,27 +90,27 @@ pub record LiftKeeps (l : List ℕ) (levels : ℕ) (u : Tree) (place looks : ℕ
   pub kept : LiftedKeeps tree levels u place looks
   pub new : treeOf (postfix u) ≡ some u
 
-pub lift-keeps : (room : ℕ) (l : List ℕ) (p k : ℕ) (u : Tree) (place looks : ℕ) → liftOf room l p k ≡ lifted u place looks → LiftKeeps l k u place looks
+pub lift-keeps : {m : MoveTable} → Right m → (room : ℕ) (l : List ℕ) (p k : ℕ) (u : Tree) (place looks : ℕ) → liftOf m room l p k ≡ lifted u place looks → LiftKeeps l k u place looks
 unfolding liftOf
-lift-keeps room l p k u place looks h = go (ltb room mostNodes) (treeOf l) refl h
+lift-keeps {m} R room l p k u place looks h = go (ltb room mostNodes) (treeOf l) refl h
   where
-    go : (b : Bool) (o : Option Tree) → treeOf l ≡ o → cond b (refused 11) (liftIn o p k) ≡ lifted u place looks → LiftKeeps l k u place looks
+    go : (b : Bool) (o : Option Tree) → treeOf l ≡ o → cond b (refused 11) (liftIn m o p k) ≡ lifted u place looks → LiftKeeps l k u place looks
     go true o e q = absurd (let z : _≡_ {A = ℕ} 0 1 = cc in omega arith)
     go false none e q = absurd (let z : _≡_ {A = ℕ} 0 1 = cc in omega arith)
     go false (some t) e q =
         let W = tree-of-sound l t e in
         let same : W .tree ≡ t = (let z : some (W .tree) ≡ some t = sym (W .is) ∙ e in cc) in
-        let K : LiftedKeeps t k u place looks = subst (Kept t k) q (lift-in-keeps t p k (subst (λ (x : Tree). size x ≤ mostNodes) same (W .most))) in
+        let K : LiftedKeeps t k u place looks = subst (Kept t k) q (lift-in-keeps R t p k (subst (λ (x : Tree). size x ≤ mostNodes) same (W .most))) in
         record { tree = t; given = e; kept = K; new = tree-of-postfix u (K .keeps .most) }
 
 -- request 2: "Looks then equal the levels lifted": a lift by k levels that is done has k looks
-pub looks-are-levels : (room : ℕ) (l : List ℕ) (p k : ℕ) (u : Tree) (place looks : ℕ) → liftOf room l p k ≡ lifted u place looks → looks ≡ k
-looks-are-levels room l p k u place looks h = lift-keeps room l p k u place looks h .kept .looks-are
+pub looks-are-levels : {m : MoveTable} → Right m → (room : ℕ) (l : List ℕ) (p k : ℕ) (u : Tree) (place looks : ℕ) → liftOf m room l p k ≡ lifted u place looks → looks ≡ k
+looks-are-levels R room l p k u place looks h = lift-keeps R room l p k u place looks h .kept .looks-are
 
 -- `lift` in a buffer that is long enough, of a tree's list, is a lift in that tree
-pub lift-of-tree : (room : ℕ) (t : Tree) (p k : ℕ) → mostNodes ≤ room → size t ≤ mostNodes → liftOf room (postfix t) p k ≡ liftIn (some t) p k
+pub lift-of-tree : (m : MoveTable) (room : ℕ) (t : Tree) (p k : ℕ) → mostNodes ≤ room → size t ≤ mostNodes → liftOf m room (postfix t) p k ≡ liftIn m (some t) p k
 unfolding liftOf
-lift-of-tree room t p k r h = rw (le-ltb room mostNodes r, tree-of-postfix t h)
+lift-of-tree m room t p k r h = rw (le-ltb room mostNodes r, tree-of-postfix t h)
 
 -- ---- the answer itself, for callers
 abbrev pub liftReply : Result → Lifted

@@ -16,50 +16,51 @@ use Rattle.tree.specs.InnerWriting.{Wrote}
 use Rattle.tree.proofs.ParseLaws.{IsTree, tree-length, no-tree-of}
 use Rattle.tree.proofs.PartLaws.{part-of-entry}
 use Rattle.tree.proofs.WritingLaws.{wrote-over, take-over}
+use Rattle.moves.specs.Moves.{MoveTable}
 use Rattle.step.specs.InnerStanding.{StateIs, Standing}
 use Rattle.lift.specs.Lift.{refused, steps, liftAt, liftIn, liftOf, Result}
 use Rattle.lift.specs.Answer.{resultSays, liftBuffer, Lifts}
 use Rattle.lift.specs.declared.Lifted.{Lifted}
 use Rattle.lift.specs.declared.Lifted.the-variants.{Refused}
 
-module _ (room : ℕ) (l : List ℕ) (p k : ℕ) where
-  pub says-11 : room < mostNodes → liftOf room l p k ≡ refused 11
+module _ (m : MoveTable) (room : ℕ) (l : List ℕ) (p k : ℕ) where
+  pub says-11 : room < mostNodes → liftOf m room l p k ≡ refused 11
   says-11 h = unfold liftOf in simp (lt-ltb room mostNodes h)
 
   module _ (h : mostNodes ≤ room) where
-    in-tree : liftOf room l p k ≡ liftIn (treeOf l) p k
+    in-tree : liftOf m room l p k ≡ liftIn m (treeOf l) p k
     in-tree = unfold liftOf in simp (le-ltb room mostNodes h)
 
-    pub says-12 : isSome (treeOf l) ≡ false → liftOf room l p k ≡ refused 12
-    says-12 n = in-tree ∙ ap (λ (o : Option Tree). liftIn o p k) (no-tree-of l n)
+    pub says-12 : isSome (treeOf l) ≡ false → liftOf m room l p k ≡ refused 12
+    says-12 n = in-tree ∙ ap (λ (o : Option Tree). liftIn m o p k) (no-tree-of l n)
 
     module _ (W : IsTree l) where
       abbrev pub place : Place
       place = locate (W .tree) [] p
 
-      in-this : liftOf room l p k ≡ cond (leb (size (W .tree)) p) (refused 13) (liftAt place k)
-      in-this = in-tree ∙ ap (λ (o : Option Tree). liftIn o p k) (W .is)
+      in-this : liftOf m room l p k ≡ cond (leb (size (W .tree)) p) (refused 13) (liftAt m place k)
+      in-this = in-tree ∙ ap (λ (o : Option Tree). liftIn m o p k) (W .is)
 
-      pub says-13 : length l ≤ p → liftOf room l p k ≡ refused 13
-      says-13 q = in-this ∙ ap (λ (b : Bool). cond b (refused 13) (liftAt place k)) (le-leb (size (W .tree)) p (omega (arith, tree-length W)))
+      pub says-13 : length l ≤ p → liftOf m room l p k ≡ refused 13
+      says-13 q = in-this ∙ ap (λ (b : Bool). cond b (refused 13) (liftAt m place k)) (le-leb (size (W .tree)) p (omega (arith, tree-length W)))
 
       module _ (q : p < length l) where
         pub the-part : Part l (length (before (place .above))) (p + 1) (place .part) (place .above)
         the-part = part-of-entry W p q
 
-        at-place : liftOf room l p k ≡ liftAt place k
-        at-place = in-this ∙ ap (λ (b : Bool). cond b (refused 13) (liftAt place k)) (lt-leb (size (W .tree)) p (omega (arith, tree-length W)))
+        at-place : liftOf m room l p k ≡ liftAt m place k
+        at-place = in-this ∙ ap (λ (b : Bool). cond b (refused 13) (liftAt m place k)) (lt-leb (size (W .tree)) p (omega (arith, tree-length W)))
 
         -- by the test of the levels, where `level` is the part's
-        by-test : (level : ℕ) → level ≡ length (place .above) → (b : Bool) → (eqb k 0 || leb level k) ≡ b → liftOf room l p k ≡ cond b (refused 14) (steps k (place .part) (place .above) 0)
+        by-test : (level : ℕ) → level ≡ length (place .above) → (b : Bool) → (eqb k 0 || leb level k) ≡ b → liftOf m room l p k ≡ cond b (refused 14) (steps m k (place .part) (place .above) 0)
         by-test level e b t =
             at-place
-            ∙ ap (λ (x : Bool). cond x (refused 14) (steps k (place .part) (place .above) 0)) (ap (λ (n : ℕ). eqb k 0 || leb n k) (sym e) ∙ t)
+            ∙ ap (λ (x : Bool). cond x (refused 14) (steps m k (place .part) (place .above) 0)) (ap (λ (n : ℕ). eqb k 0 || leb n k) (sym e) ∙ t)
 
-        pub says-14 : (level : ℕ) → level ≡ length (place .above) → (eqb k 0 || leb level k) ≡ true → liftOf room l p k ≡ refused 14
+        pub says-14 : (level : ℕ) → level ≡ length (place .above) → (eqb k 0 || leb level k) ≡ true → liftOf m room l p k ≡ refused 14
         says-14 level e t = by-test level e true t
 
-        pub runs-on : (level : ℕ) → level ≡ length (place .above) → (eqb k 0 || leb level k) ≡ false → liftOf room l p k ≡ steps k (place .part) (place .above) 0
+        pub runs-on : (level : ℕ) → level ≡ length (place .above) → (eqb k 0 || leb level k) ≡ false → liftOf m room l p k ≡ steps m k (place .part) (place .above) 0
         runs-on level e t = by-test level e false t
 
 pub levels-below : (k level : ℕ) → (eqb k 0 || leb level k) ≡ false → k < level

@@ -6,6 +6,8 @@ ghost use lib.ListN.{length, take};
 ghost use Rattle.tree.specs.Tree.{Tree, mostNodes};
 ghost use Rattle.tree.specs.Context.{Frame};
 ghost use Rattle.tree.specs.InnerPart.{Part};
+ghost use Rattle.moves.specs.Moves.{MoveTable, ours};
+ghost use Rattle.moves.specs.InnerEntries.{TableIs, SomeTable};
 ghost use Rattle.step.specs.InnerStanding.{Stands};
 ghost use Rattle.lift.specs.InnerLifts.{Ends, LiftsNode, LiftsPart};
 ghost use Rattle.lift.specs.Lift.{liftOf};
@@ -51,12 +53,16 @@ fn run(
     levels: usize,
     looks: usize,
     out: &mut [u16],
+    signs: &[u8],
+    lengths: &[u8],
 ) -> Lifted
     requires { ⌜ Stands (take nodes (now x)) node ⌝ }
     requires { ⌜ (nodes ≤ mostNodes) × (mostNodes ≤ length (now x)) ⌝ }
     requires { ⌜ (mostNodes ≤ length (now y)) × (mostNodes ≤ length (now out)) ⌝ }
     requires { ⌜ looks + mostNodes * levels ≤ mostNodes * mostNodes ⌝ }
-    ensures { λ r. ⌜ LiftsNode (take nodes (now (x .entry))) node levels looks (now (out .entry)) r (now (out .exit)) ⌝ }
+    requires { ⌜ SomeTable (now signs) (now lengths) ⌝ }
+    ensures { λ r. ⌜ ((m : MoveTable) → TableIs m (now (signs .entry)) (now (lengths .entry))
+        → LiftsNode m (take nodes (now (x .entry))) node levels looks (now (out .entry)) r (now (out .exit))) ⌝ }
 {
     if levels == 0 {
         tree::copy(&x[..nodes], out, 0);
@@ -66,11 +72,11 @@ fn run(
             looks,
         };
     }
-    match step::step(&x[..nodes], node, y) {
+    match step::step(&x[..nodes], node, y, signs, lengths) {
         Stepped::Stuck => Lifted::Refused(NO_STEP),
         Stepped::Blocked => Lifted::Refused(THROUGH_INTERSECTION),
         Stepped::TooLong => Lifted::Refused(TOO_LONG),
-        Stepped::Done(count, next) => run(y, x, count, next, levels - 1, looks + 1, out),
+        Stepped::Done(count, next) => run(y, x, count, next, levels - 1, looks + 1, out, signs, lengths),
     }
 }
 
@@ -102,11 +108,20 @@ fn level_of(list: &[u16], to: usize) -> usize
 }
 
 // That many steps of the part that ends before `to`, in two buffers of its own.
-fn lift_part(list: &[u16], to: usize, levels: usize, out: &mut [u16]) -> Lifted
+fn lift_part(
+    list: &[u16],
+    to: usize,
+    levels: usize,
+    out: &mut [u16],
+    signs: &[u8],
+    lengths: &[u8],
+) -> Lifted
     requires { ⌜ Ends (now list) to ⌝ }
     requires { ⌜ (length (now list) ≤ mostNodes) × (mostNodes ≤ length (now out)) ⌝ }
     requires { ⌜ levels ≤ mostNodes ⌝ }
-    ensures { λ r. ⌜ LiftsPart (now (list .entry)) to levels (now (out .entry)) r (now (out .exit)) ⌝ }
+    requires { ⌜ SomeTable (now signs) (now lengths) ⌝ }
+    ensures { λ r. ⌜ ((m : MoveTable) → TableIs m (now (signs .entry)) (now (lengths .entry))
+        → LiftsPart m (now (list .entry)) to levels (now (out .entry)) r (now (out .exit))) ⌝ }
 {
     let from = tree::part_start(list, to);
     let state = step::first_state(list, Stretch { from, to });
@@ -121,12 +136,24 @@ fn lift_part(list: &[u16], to: usize, levels: usize, out: &mut [u16]) -> Lifted
         levels,
         0,
         out,
+        signs,
+        lengths,
     )
 }
 
-// Lifts the node at a position of a tree by some levels, and writes the new tree into `out`.
-pub fn lift(tree: &[u16], position: usize, levels: usize, out: &mut [u16]) -> Lifted
-    ensures { λ r. ⌜ Lifts (liftOf (length (now (out .entry))) (now (tree .entry)) position levels) (now (out .entry)) r (now (out .exit)) ⌝ }
+// Lifts the node at a position of a tree by some levels, by the table whose words' signs and lengths are given, without any by ours, and writes
+// the new tree into `out`. The table is not checked again.
+pub fn lift_by(
+    tree: &[u16],
+    position: usize,
+    levels: usize,
+    out: &mut [u16],
+    signs: &[u8],
+    lengths: &[u8],
+) -> Lifted
+    requires { ⌜ SomeTable (now signs) (now lengths) ⌝ }
+    ensures { λ r. ⌜ ((m : MoveTable) → TableIs m (now (signs .entry)) (now (lengths .entry))
+        → Lifts (liftOf m (length (now (out .entry))) (now (tree .entry)) position levels) (now (out .entry)) r (now (out .exit))) ⌝ }
 {
     if out.len() < MOST_NODES {
         return Lifted::Refused(SHORT_BUFFER);
@@ -140,8 +167,16 @@ pub fn lift(tree: &[u16], position: usize, levels: usize, out: &mut [u16]) -> Li
         if (levels == 0) | (level <= levels) {
             return Lifted::Refused(BAD_LEVELS);
         }
-        lift_part(tree, to, levels, out)
+        lift_part(tree, to, levels, out, signs, lengths)
     } else {
         Lifted::Refused(NOT_A_TREE)
     }
+}
+
+// The same by our own table.
+pub fn lift(tree: &[u16], position: usize, levels: usize, out: &mut [u16]) -> Lifted
+    ensures { λ r. ⌜ Lifts (liftOf ours (length (now (out .entry))) (now (tree .entry)) position levels) (now (out .entry)) r (now (out .exit)) ⌝ }
+{
+    let nothing = [0u8; 0];
+    lift_by(tree, position, levels, out, &nothing, &nothing)
 }

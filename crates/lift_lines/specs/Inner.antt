@@ -6,6 +6,8 @@ use lib.ListN.{length, take}
 use Rattle.tree.specs.Tree.{Tree, postfix, size, mostNodes}
 use Rattle.tree.specs.InnerWriting.{Wrote}
 use Rattle.text.specs.Line.{lines}
+use Rattle.moves.specs.Moves.{MoveTable}
+use Rattle.moves.specs.InnerEntries.{TableIs}
 use Rattle.sheet.specs.Form.{mostPosition, mostLevels}
 use Rattle.sheet.specs.Reading.{LiftLine}
 use Rattle.sheet.specs.Rules.{sheetRules}
@@ -35,17 +37,17 @@ pub record LiftRoom (position levels : ℕ) (out : List ℕ) (at : ℕ) : Type 0
   pub few : levels ≤ mostLevels
   pub room : at + liftBytes ≤ length out
 
--- one lift in the tree t, and its line
-pub record LiftedOne (t : Tree) (l : LiftLine) (tree′ : List ℕ) (r : Progress) (out : List ℕ) (at : ℕ) (out′ : List ℕ) : Type 0 where
-  pub holds : IsList (take (r .nodes) tree′) (treeLeft t (lifting t l))
+-- one lift in the tree t by the table m, and its line
+pub record LiftedOne (m : MoveTable) (t : Tree) (l : LiftLine) (tree′ : List ℕ) (r : Progress) (out : List ℕ) (at : ℕ) (out′ : List ℕ) : Type 0 where
+  pub holds : IsList (take (r .nodes) tree′) (treeLeft t (lifting m t l))
   pub fits : r .nodes ≤ mostNodes
-  pub wrote : Wrote out at out′ (r .next) (rowText (liftRow (liftAnswer l (lifting t l))))
+  pub wrote : Wrote out at out′ (r .next) (rowText (liftRow (liftAnswer l (lifting m t l))))
   pub most : r .next ≤ at + liftBytes
 
--- .. in whichever tree the array's entries are
-abbrev pub LiftsOne : (tree : List ℕ) (nodes position levels : ℕ) (tree′ : List ℕ) (r : Progress) (out : List ℕ) (at : ℕ) (out′ : List ℕ) → Type 0
-LiftsOne tree nodes position levels tree′ r out at out′ =
-    (t : Tree) → IsList (take nodes tree) t → LiftedOne t (record { position = position; levels = levels }) tree′ r out at out′
+-- .. by whichever table it is whose words these are, in whichever tree the array's entries are
+abbrev pub LiftsOne : (tree : List ℕ) (nodes position levels : ℕ) (tree′ : List ℕ) (r : Progress) (out : List ℕ) (at : ℕ) (out′ signs lengths : List ℕ) → Type 0
+LiftsOne tree nodes position levels tree′ r out at out′ signs lengths =
+    (m : MoveTable) → TableIs m signs lengths → (t : Tree) → IsList (take nodes tree) t → LiftedOne m t (record { position = position; levels = levels }) tree′ r out at out′
 
 -- ---- `lift_all`
 -- the lines at `start` ask for these lifts
@@ -55,12 +57,12 @@ pub record Asked (sheet : List ℕ) (start count : ℕ) (ls : List LiftLine) : T
   pub counted : count ≡ length ls
 
 -- all lifts, from the tree t, and their lines
-pub record LiftedAll (t : Tree) (ls : List LiftLine) (tree′ : List ℕ) (r : Progress) (out out′ : List ℕ) : Type 0 where
-  pub holds : IsList (take (r .nodes) tree′) (treeAfter t ls)
+pub record LiftedAll (m : MoveTable) (t : Tree) (ls : List LiftLine) (tree′ : List ℕ) (r : Progress) (out out′ : List ℕ) : Type 0 where
+  pub holds : IsList (take (r .nodes) tree′) (treeAfter m t ls)
   pub fits : r .nodes ≤ mostNodes
-  pub wrote : Wrote out 0 out′ (r .next) (lines (liftRows (liftAnswers t ls)))
+  pub wrote : Wrote out 0 out′ (r .next) (lines (liftRows (liftAnswers m t ls)))
   pub most : r .next ≤ liftBytes * length ls
 
-abbrev pub LiftsAll : (sheet : List ℕ) (start count : ℕ) (tree : List ℕ) (nodes : ℕ) (tree′ : List ℕ) (r : Progress) (out out′ : List ℕ) → Type 0
-LiftsAll sheet start count tree nodes tree′ r out out′ =
-    (t : Tree) (ls : List LiftLine) → IsList (take nodes tree) t → Asked sheet start count ls → LiftedAll t ls tree′ r out out′
+abbrev pub LiftsAll : (sheet : List ℕ) (start count : ℕ) (tree : List ℕ) (nodes : ℕ) (tree′ : List ℕ) (r : Progress) (out out′ signs lengths : List ℕ) → Type 0
+LiftsAll sheet start count tree nodes tree′ r out out′ signs lengths =
+    (m : MoveTable) → TableIs m signs lengths → (t : Tree) (ls : List LiftLine) → IsList (take nodes tree) t → Asked sheet start count ls → LiftedAll m t ls tree′ r out out′

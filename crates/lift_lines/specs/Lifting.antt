@@ -1,14 +1,15 @@
--- Document 01, "The key program": the lifts of a sheet, in order.
+-- Document 01, "The key program": the lifts of a sheet, in order, by a move table.
 use mathlib.Core.List.{List, [], _∷_}
 use mathlib.Core.Option.{some}
 use Rattle.tree.specs.Tree.{Tree}
 use Rattle.sheet.specs.Reading.{LiftLine}
+use Rattle.moves.specs.Moves.{MoveTable}
 use Rattle.lift.specs.Lift.{Result, refused, lifted, liftIn}
 use Rattle.printing.specs.Key.{LiftAnswer}
 
 -- a lift in a tree, by 01's definition
-abbrev pub lifting : Tree → LiftLine → Result
-lifting t l = liftIn (some t) (l .position) (l .levels)
+abbrev pub lifting : MoveTable → Tree → LiftLine → Result
+lifting m t l = liftIn m (some t) (l .position) (l .levels)
 
 -- "A refused lift leaves the tree and the next goes on."
 abbrev pub treeLeft : Tree → Result → Tree
@@ -21,11 +22,11 @@ liftAnswer l (refused number) = record { number = number; position = l .position
 liftAnswer l (lifted u position looks) = record { number = 0; position = position; looks = looks }
 
 -- "The first lift gets the tree as read, each later one the tree that the lift before it left": the tree that the list leaves,
-unfoldable pub treeAfter : Tree → List LiftLine → Tree
-treeAfter t [] = t
-treeAfter t (l ∷ ls) = treeAfter (treeLeft t (lifting t l)) ls
+unfoldable pub treeAfter : MoveTable → Tree → List LiftLine → Tree
+treeAfter m t [] = t
+treeAfter m t (l ∷ ls) = treeAfter m (treeLeft t (lifting m t l)) ls
 
 -- and the answers, in order
-unfoldable pub liftAnswers : Tree → List LiftLine → List LiftAnswer
-liftAnswers t [] = []
-liftAnswers t (l ∷ ls) = liftAnswer l (lifting t l) ∷ liftAnswers (treeLeft t (lifting t l)) ls
+unfoldable pub liftAnswers : MoveTable → Tree → List LiftLine → List LiftAnswer
+liftAnswers m t [] = []
+liftAnswers m t (l ∷ ls) = liftAnswer l (lifting m t l) ∷ liftAnswers m (treeLeft t (lifting m t l)) ls

@@ -3,6 +3,7 @@ ghost use mathlib.Core.Path.{_≡_};
 ghost use mathlib.Core.List.{List};
 ghost use Prim.Native.Nat.{ℕ, _*_, _≤_};
 ghost use lib.ListN.{length};
+ghost use Rattle.moves.specs.InnerEntries.{SomeTable};
 ghost use Rattle.sheet.specs.Reading.{LiftLine};
 ghost use Rattle.sheet.specs.declared.Line.the-variants.{Lift};
 ghost use Rattle.lift_lines.specs.Inner.{liftBytes, InArray, LiftRoom, LiftsOne, Asked, LiftsAll};
@@ -13,7 +14,8 @@ pub struct Progress {
     pub next: usize,
 }
 
-// Carries out one lift in the tree that the first `nodes` entries are, and writes its line.
+// Carries out one lift in the tree that the first `nodes` entries are, by the table whose words' signs and lengths are given, without any by
+// ours, and writes its line.
 fn lift_one(
     tree: &mut [u16],
     nodes: usize,
@@ -21,13 +23,15 @@ fn lift_one(
     levels: usize,
     out: &mut [u8],
     at: usize,
+    signs: &[u8],
+    lengths: &[u8],
 ) -> Progress
     requires { ⌜ InArray (now tree) nodes ⌝ }
-    requires { ⌜ LiftRoom position levels (now out) at ⌝ }
-    ensures { λ r. ⌜ LiftsOne (now (tree .entry)) nodes position levels (now (tree .exit)) r (now (out .entry)) at (now (out .exit)) ⌝ }
+    requires { ⌜ LiftRoom position levels (now out) at × SomeTable (now signs) (now lengths) ⌝ }
+    ensures { λ r. ⌜ LiftsOne (now (tree .entry)) nodes position levels (now (tree .exit)) r (now (out .entry)) at (now (out .exit)) (now (signs .entry)) (now (lengths .entry)) ⌝ }
 {
     let mut new = [0u16; tree::MOST_NODES];
-    let lifted = lift::lift(&tree[..nodes], position, levels, &mut new);
+    let lifted = lift::lift_by(&tree[..nodes], position, levels, &mut new, signs, lengths);
     match lifted {
         lift::Lifted::Done {
             nodes: count,
@@ -66,7 +70,7 @@ fn lift_numbers(line: sheet::Line) -> LiftNumbers
     }
 }
 
-// Carries out the lifts of the lines from the byte `start` on, and writes their lines.
+// Carries out the lifts of the lines from the byte `start` on, by that table, and writes their lines.
 pub fn lift_all(
     sheet: &[u8],
     start: usize,
@@ -74,10 +78,13 @@ pub fn lift_all(
     tree: &mut [u16],
     nodes: usize,
     out: &mut [u8],
+    signs: &[u8],
+    lengths: &[u8],
 ) -> Progress
     requires { ⌜ InArray (now tree) nodes ⌝ }
     requires { ⌜ ((ls : List LiftLine) × Asked (now sheet) start count ls) × (liftBytes * count ≤ length (now out)) ⌝ }
-    ensures { λ r. ⌜ LiftsAll (now (sheet .entry)) start count (now (tree .entry)) nodes (now (tree .exit)) r (now (out .entry)) (now (out .exit)) ⌝ }
+    requires { ⌜ SomeTable (now signs) (now lengths) ⌝ }
+    ensures { λ r. ⌜ LiftsAll (now (sheet .entry)) start count (now (tree .entry)) nodes (now (tree .exit)) r (now (out .entry)) (now (out .exit)) (now (signs .entry)) (now (lengths .entry)) ⌝ }
 {
     let mut at = start;
     let mut entries = nodes;
@@ -87,7 +94,7 @@ pub fn lift_all(
         let here = sheet::line_at(sheet, at);
         let line = here.line;
         let asked = lift_numbers(line);
-        let done = lift_one(tree, entries, asked.position, asked.levels, out, next);
+        let done = lift_one(tree, entries, asked.position, asked.levels, out, next, signs, lengths);
         at = here.next;
         entries = done.nodes;
         next = done.next;

@@ -25,6 +25,8 @@ use Rattle.gather.specs.Answer.{GatheredTo, GathersTree, Gathers}
 use Rattle.gather.specs.declared.Gathering.the-variants.{Done, Refused}
 use Rattle.gather.proofs.AnswerLaws.{done-faultless, cannot-faultless}
 use Rattle.gather.proofs.WholeLaws.{faultless}
+use Rattle.moves.specs.Moves.{MoveTable}
+use Rattle.moves.proofs.MoveLaws as moves
 use Rattle.lift.proofs.LiftLaws.{Keeps}
 use Rattle.lift_lines.specs.Lifting.{treeAfter}
 use Rattle.lift_lines.proofs.LiftingLaws.{after-keeps}
@@ -127,53 +129,13 @@ module _ (question candidate : List ℕ) (r : Marking) (M : Marks question candi
       let z : G .state .marks ≡ [] = ap (λ (st : ReadingState). st .marks) (same-state (G .questionRead) e) ∙ none in
       k .4 .notGathered .only s .1 (gathered-none (G .state .marks) (k .2) (ap length z))
 
--- ---- the tree that the question's lifts leave
+-- ---- the tree that the question's lifts leave, by a right table
 module _ (question : List ℕ) (q : ReadingState) (e : reading question ≡ accepted q) (t : Tree) (is : treeOf (q .entries) ≡ some t) where
-  abbrev left : Tree
-  left = treeAfter t (q .lifts)
-
   A : Accepted sheetRules question q
   A = accepted-sheet question q e
 
   as-written : A .tree ≡ t
   as-written = same-tree (A .is) is
-
-  K : Keeps t left
-  K = after-keeps t (q .lifts) (rw as-written at (A .nodes))
-
-  left-is : treeOf (postfix left) ≡ some left
-  left-is = tree-of-postfix left (K .most)
-
-  -- a tree over the groups of `left` that is equivalent to it and gathered is right
-  pub right-typed : (u : Tree) (p : ℕ) → Equivalent left u → Gathered (isIn (q .marks)) u p → Over (isIn (groups left)) u → size u ≤ mostNodes → RightDrawing question (typed u)
-  right-typed u p equivalent gathered own most =
-      let known : q .groups ≡ groups t = A .known ∙ ap groups as-written in
-      let few : length (groups t) ≤ mostGroups = rw as-written at (A .different) in
-      let over : Over (isIn (groups t)) u = over-implies (λ g i. leaves-over (isIn (groups t)) left (K .over (isIn (groups t)) (over-groups t)) g (sym (groups-leaves left g) ∙ i)) u own in
-      let read = typed-accepted candidateRules u (omega arith) refl most most (omega (arith, groups-most t u over)) in
-      record {
-        state = q;
-        drawn = _;
-        questionRead = e;
-        candidateRead = read;
-        ownGroups = foreign-lines (q .groups) (typed u) _ read ∙ foreign-none (q .groups) u (rw known over);
-        tree = t;
-        treeIs = is;
-        drawing = u;
-        drawingIs = tree-of-postfix u most;
-        equivalent = equivalent-trans (equivalent-sym (K .equivalent)) equivalent;
-        gathered = gathered-for (q .marks) u p gathered;
-      }
-
-  -- 2. "The tree that our own gathering returns, typed as tree lines, is always marked right."
-  pub own-tree-right : (out out′ : List ℕ) (nodes holder : ℕ) → Gathers (postfix (treeAfter t (q .lifts))) (q .marks) out out′ (Done nodes holder)
-      → (u : Tree) → treeOf (take nodes out′) ≡ some u → (r : Marking) → Marks question (typed u) r → markingSays r ≡ mark 0
-  unfolding GathersTree
-  own-tree-right out out′ nodes holder G u own r M =
-      let R : GatheredTo left (q .marks) out out′ nodes holder = G .gathers (done-faultless G) left left-is in
-      let front : take nodes out′ ≡ postfix (R .result) = ap (take nodes) (R .written) ∙ take-over (postfix (R .result)) out nodes (R .counted ∙ sym (postfix-length (R .result))) in
-      let same : R .result ≡ u = same-tree (ap treeOf front ∙ tree-of-postfix (R .result) (R .most)) own in
-      right-exactly question (typed u) r M .always (subst (λ (x : Tree). RightDrawing question (typed x)) same (right-typed (R .result) holder (R .equivalent) (R .gathered) (R .own) (R .most)))
 
   -- 3. "For a question answered 19 no drawing is ever right.": where no tree is gathered that is equivalent to the tree as written
   pub cannot-be-right : CannotBeGathered (isIn (q .marks)) t → 1 ≤ length (q .marks) → (candidate : List ℕ) (r : Marking) → Marks question candidate r → markingSays r ≡ mark 0 → ⊥
@@ -184,11 +146,52 @@ module _ (question : List ℕ) (q : ReadingState) (e : reading question ≡ acce
       let held = gathered-some (q .marks) (R .drawing) some-mark (rw state at (R .gathered)) in
       C .never (R .drawing) (held .0) (rw tree at (R .equivalent)) (held .1)
 
-  -- so where our gathering of the tree that the lifts leave is refused with 19
-  pub never-right : (out out′ : List ℕ) → Gathers (postfix (treeAfter t (q .lifts))) (q .marks) out out′ (Refused 19)
-      → (candidate : List ℕ) (r : Marking) → Marks question candidate r → markingSays r ≡ mark 0 → ⊥
-  unfolding GathersTree
-  never-right out out′ G =
-      let clear = cannot-faultless G in
-      let C : CannotBeGathered (isIn (q .marks)) left = G .gathers clear left left-is .2 in
-      cannot-be-right (record { never = λ u p f g. C .never u p (equivalent-trans (K .equivalent) f) g }) (faultless _ _ _ clear .some-mark)
+  module _ (m : MoveTable) (R : moves.Right m) where
+    abbrev left : Tree
+    left = treeAfter m t (q .lifts)
+
+    K : Keeps t left
+    K = after-keeps R t (q .lifts) (rw as-written at (A .nodes))
+
+    left-is : treeOf (postfix left) ≡ some left
+    left-is = tree-of-postfix left (K .most)
+
+    -- a tree over the groups of `left` that is equivalent to it and gathered is right
+    pub right-typed : (u : Tree) (p : ℕ) → Equivalent left u → Gathered (isIn (q .marks)) u p → Over (isIn (groups left)) u → size u ≤ mostNodes → RightDrawing question (typed u)
+    right-typed u p equivalent gathered own most =
+        let known : q .groups ≡ groups t = A .known ∙ ap groups as-written in
+        let few : length (groups t) ≤ mostGroups = rw as-written at (A .different) in
+        let over : Over (isIn (groups t)) u = over-implies (λ g i. leaves-over (isIn (groups t)) left (K .over (isIn (groups t)) (over-groups t)) g (sym (groups-leaves left g) ∙ i)) u own in
+        let read = typed-accepted candidateRules u (omega arith) refl most most (omega (arith, groups-most t u over)) in
+        record {
+          state = q;
+          drawn = _;
+          questionRead = e;
+          candidateRead = read;
+          ownGroups = foreign-lines (q .groups) (typed u) _ read ∙ foreign-none (q .groups) u (rw known over);
+          tree = t;
+          treeIs = is;
+          drawing = u;
+          drawingIs = tree-of-postfix u most;
+          equivalent = equivalent-trans (equivalent-sym (K .equivalent)) equivalent;
+          gathered = gathered-for (q .marks) u p gathered;
+        }
+
+    -- 2. "The tree that our own gathering returns, typed as tree lines, is always marked right."
+    pub own-tree-right : (out out′ : List ℕ) (nodes holder : ℕ) → Gathers (postfix (treeAfter m t (q .lifts))) (q .marks) out out′ (Done nodes holder)
+        → (u : Tree) → treeOf (take nodes out′) ≡ some u → (r : Marking) → Marks question (typed u) r → markingSays r ≡ mark 0
+    unfolding GathersTree
+    own-tree-right out out′ nodes holder G u own r M =
+        let R : GatheredTo left (q .marks) out out′ nodes holder = G .gathers (done-faultless G) left left-is in
+        let front : take nodes out′ ≡ postfix (R .result) = ap (take nodes) (R .written) ∙ take-over (postfix (R .result)) out nodes (R .counted ∙ sym (postfix-length (R .result))) in
+        let same : R .result ≡ u = same-tree (ap treeOf front ∙ tree-of-postfix (R .result) (R .most)) own in
+        right-exactly question (typed u) r M .always (subst (λ (x : Tree). RightDrawing question (typed x)) same (right-typed (R .result) holder (R .equivalent) (R .gathered) (R .own) (R .most)))
+
+    -- so where our gathering of the tree that the lifts leave is refused with 19
+    pub never-right : (out out′ : List ℕ) → Gathers (postfix (treeAfter m t (q .lifts))) (q .marks) out out′ (Refused 19)
+        → (candidate : List ℕ) (r : Marking) → Marks question candidate r → markingSays r ≡ mark 0 → ⊥
+    unfolding GathersTree
+    never-right out out′ G =
+        let clear = cannot-faultless G in
+        let C : CannotBeGathered (isIn (q .marks)) left = G .gathers clear left left-is .2 in
+        cannot-be-right (record { never = λ u p f g. C .never u p (equivalent-trans (K .equivalent) f) g }) (faultless _ _ _ clear .some-mark)

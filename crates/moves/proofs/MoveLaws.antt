@@ -1,133 +1,34 @@
--- Every move entry names A once and one level higher than its left side, names the parts that its left side names, and agrees with it under
--- all sixteen fillings of A, B, C and D: one computed test over the whole table. What that says of trees.
-use mathlib.Core.Path.{_≡_, refl, sym, subst, _∙_}
-use mathlib.Core.Bool.{Bool, true, false, not, cond, _&&_, _||_, Bool·beq}
-use mathlib.Core.List.{[], _∷_, _++_}
-use Prim.Native.Nat.{ℕ, _+_}
+-- A table is right if each of its entries may stand for its left side: ours is, by one computed test, and so is every school's whose words stand
+-- for theirs.
+use mathlib.Core.Path.{_≡_, refl, sym, ap, subst, _∙_}
+use mathlib.Core.Bool.{Bool, true, false, _&&_}
+use mathlib.Core.List.{List, [], _∷_, _++_, append-nil}
+use Prim.Native.Nat.{ℕ, _+_, _-_}
 use native.Mathlib.Omega.{arith}
 use lib.Dec.{T, eqb, eqb→eq, leb}
-use lib.ListN.{length, length-append}
-use Rattle.tree.specs.Tree.{Operator, Basic, operatorOf, Tree, node, apply}
-use Rattle.tree.specs.Context.{Side, left, right, frame, sided, plug}
+use lib.ListN.{length, replicate, length-append}
+use Rattle.tree.specs.Tree.{Basic, plus, minus, operatorOf, Tree, apply}
+use Rattle.tree.specs.Context.{Side, left, right, frame, sided}
 use Rattle.tree.proofs.TreeLaws.{and-left, and-right}
-use Rattle.tree.proofs.ContextLaws.{plug-append}
-use Rattle.moves.specs.Moves.{Formula, A, B, C, D, join, Move, replaceT, replaceTWithD, moveOf, stateOf, inputOf, under, namesA, value, framesOf, State, Input, inputA}
-use Rattle.moves.specs.InnerEntries.{stateNumber, entryOf}
-use Rattle.moves.specs.InnerWords.{once}
-use Rattle.moves.proofs.Cases.{equal-bools, allFillings, at-filling, allKinds, at-kind}
+use Rattle.words.specs.Formula.{Formula, A, B, C, D, join, framesOf, once, levelOfA, value, agree}
+use Rattle.words.specs.InnerWords.{blank, spell}
+use Rattle.moves.specs.Moves.{State, state1, state2, state3, state4, state5, state6, state7, state8, state9, stateNumber, stateOf, Input, inputA, inputB, inputC, inputD, inputOf, Move, replaceT, replaceTWithD, MoveTable, ours, school}
+use Rattle.moves.specs.LeftSides.{leftSide, standsFor}
+use Rattle.moves.specs.NextState.{kind, kindsAbove, kindOfInput, leftAbove}
+use Rattle.moves.specs.InnerEntries.{entryOf, padded, onlyT, TableBy, TableIs}
+use Rattle.words.proofs.Cases.{allKinds, at-kind}
+use Rattle.words.proofs.FormulaLaws.{replaces, Replaces, may-replace, agree-at, above-level}
+use Rattle.words.proofs.WordLaws.{spell-append, spell-blanks}
 use Rattle.moves.proofs.TableLaws.{same-entry}
+use Rattle.moves.proofs.SideLaws.{asksAll, all-agree, same-parts}
 
--- ---- the test
--- A's level in a formula
-abbrev pub levelOfA : Formula → ℕ
-levelOfA A = 0
-levelOfA B = 0
-levelOfA C = 0
-levelOfA D = 0
-levelOfA (join o p q) = cond (namesA p) (levelOfA p) (levelOfA q) + 1
-
--- two formulas agree under all sixteen fillings, for operators that mean f
-abbrev pub agree : (Operator → Bool → Bool → Bool) → Formula → Formula → Bool
-agree f p q = allFillings (λ a b c d. Bool·beq (value f a b c d p) (value f a b c d q))
-
--- an operator that asks both of its operands: with it a formula's value asks each part that the formula names
-abbrev pub both : Operator → Bool → Bool → Bool
-both o x y = x && y
-
--- p may stand for l
-abbrev pub replaces : Formula → Formula → Bool
-replaces p l = (once p && once l) && (eqb (levelOfA p + 1) (levelOfA l) && (agree apply p l && agree both p l))
-
+-- ---- the left sides
 -- T, and T with D, as formulas
 abbrev pub formulaT : Side → Basic → Side → Basic → Formula
 formulaT s o t q = sided t (join q) (sided s (join o) A B) C
 
 abbrev pub formulaTWithD : Side → Basic → Side → Basic → Side → Basic → Formula
 formulaTWithD s o t q u w = sided u (join w) (formulaT s o t q) D
-
-abbrev pub right-move : Side → Basic → Side → Basic → Move → Bool
-right-move s o t q (replaceT p) = replaces p (formulaT s o t q)
-right-move s o t q (replaceTWithD w x y z) = allKinds (λ u k. replaces (under (inputOf u k) w x y z) (formulaTWithD s o t q u k))
-
--- the whole table
-pub every-move : (s : Side) (o : Basic) (t : Side) (q : Basic) → T (right-move s o t q (moveOf (stateOf s o t q)))
-every-move s o t q =
-    at-kind (λ t q. right-move s o t q (moveOf (stateOf s o t q)))
-    (at-kind (λ s o. allKinds (λ t q. right-move s o t q (moveOf (stateOf s o t q)))) tt s o) t q
-
--- ---- what it says
-pub record Replaces (p l : Formula) : Type 0 where
-  pub once-new : T (once p)
-  pub once-old : T (once l)
-  pub higher : levelOfA p + 1 ≡ levelOfA l
-  pub selects-same : T (agree apply p l)
-  pub parts-same : T (agree both p l)
-
-pub may-replace : (p l : Formula) → T (replaces p l) → Replaces p l
-may-replace p l t =
-    let named = and-left (once p && once l) _ t in
-    let other = and-right (once p && once l) _ t in
-    let fillings = and-right (eqb (levelOfA p + 1) (levelOfA l)) _ other in
-    record {
-      once-new = and-left (once p) (once l) named;
-      once-old = and-right (once p) (once l) named;
-      higher = eqb→eq (levelOfA p + 1) (levelOfA l) (and-left (eqb (levelOfA p + 1) (levelOfA l)) _ other);
-      selects-same = and-left (agree apply p l) (agree both p l) fillings;
-      parts-same = and-right (agree apply p l) (agree both p l) fillings;
-    }
-
-pub agree-at : (f : Operator → Bool → Bool → Bool) (p q : Formula) → T (agree f p q) → (a b c d : Bool) → value f a b c d p ≡ value f a b c d q
-agree-at f p q t a b c d = equal-bools _ _ (at-filling (λ a b c d. Bool·beq (value f a b c d p) (value f a b c d q)) t a b c d)
-
--- ---- A's context in a formula
-neither-left : (m n : Bool) → T (not (m || n)) → T (not m)
-neither-left true n t = t
-neither-left false n t = tt
-
-neither-right : (m n : Bool) → T (not (m || n)) → T (not n)
-neither-right true n t = absurd t
-neither-right false n t = t
-
--- a formula that does not name A has the same value whatever A is
-pub without-a : (a a′ b c d : Tree) (p : Formula) → T (not (namesA p)) → value node a b c d p ≡ value node a′ b c d p
-without-a a a′ b c d A t = absurd t
-without-a a a′ b c d B t = refl
-without-a a a′ b c d C t = refl
-without-a a a′ b c d D t = refl
-without-a a a′ b c d (join o p q) t =
-    cc (without-a a a′ b c d p (neither-left (namesA p) (namesA q) t), without-a a a′ b c d q (neither-right (namesA p) (namesA q) t))
-
--- A in its context in a formula is the formula
-pub plug-frames : (a b c d : Tree) (p : Formula) → T (once p) → plug a (framesOf b c d p) ≡ value node a b c d p
-unfolding plug
-plug-frames a b c d A t = refl
-plug-frames a b c d B t = absurd t
-plug-frames a b c d C t = absurd t
-plug-frames a b c d D t = absurd t
-plug-frames a b c d (join o p q) t = go (plug-frames a b c d p) (plug-frames a b c d q) (namesA p) refl t
-  where
-    go : (T (once p) → plug a (framesOf b c d p) ≡ value node a b c d p) → (T (once q) → plug a (framesOf b c d q) ≡ value node a b c d q)
-        → (m : Bool) → namesA p ≡ m → T (cond m (once p && not (namesA q)) (once q))
-        → plug a (cond m (framesOf b c d p ++ (frame left (operatorOf o) (value node b b c d q) ∷ [])) (framesOf b c d q ++ (frame right (operatorOf o) (value node b b c d p) ∷ [])))
-        ≡ node (operatorOf o) (value node a b c d p) (value node a b c d q)
-    go hp hq true e t =
-        plug-append a (framesOf b c d p) _
-        ∙ cc (hp (and-left (once p) (not (namesA q)) t), without-a a b b c d q (and-right (once p) (not (namesA q)) t))
-    go hp hq false e t =
-        plug-append a (framesOf b c d q) _ ∙ cc (hq t, without-a a b b c d p (subst (λ (m : Bool). T (not m)) (sym e) tt))
-
-pub frames-level : (b c d : Tree) (p : Formula) → length (framesOf b c d p) ≡ levelOfA p
-frames-level b c d A = refl
-frames-level b c d B = refl
-frames-level b c d C = refl
-frames-level b c d D = refl
-frames-level b c d (join o p q) = go (frames-level b c d p) (frames-level b c d q) (namesA p)
-  where
-    go : length (framesOf b c d p) ≡ levelOfA p → length (framesOf b c d q) ≡ levelOfA q → (m : Bool)
-        → length (cond m (framesOf b c d p ++ (frame left (operatorOf o) (value node b b c d q) ∷ [])) (framesOf b c d q ++ (frame right (operatorOf o) (value node b b c d p) ∷ [])))
-        ≡ cond m (levelOfA p) (levelOfA q) + 1
-    go h k true = simp length-append (omega arith)
-    go h k false = simp length-append (omega arith)
 
 -- the frames that T, and T with D, stand for
 pub frames-t : (s : Side) (o : Basic) (t : Side) (q : Basic) (b c d : Tree) → framesOf b c d (formulaT s o t q) ≡ frame s (operatorOf o) b ∷ (frame t (operatorOf q) c ∷ [])
@@ -147,15 +48,133 @@ frames-t-with-d right o left q right w b c d = refl
 frames-t-with-d right o right q left w b c d = refl
 frames-t-with-d right o right q right w b c d = refl
 
--- ---- the table by states and inputs
--- each entry names A once
-pub once-entry : (x : State) (i : Input) → T (once (entryOf (moveOf x) i))
-once-entry x i = subst T (sym (same-entry (λ x i. once (entryOf (moveOf x) i)) (λ x i. true) refl x i)) tt
+-- T with D selects as the left side of its state and input does ("either order of its operands"), has A once and at level 3, and asks all parts
+abbrev is-side : Side → Basic → Side → Basic → Side → Basic → Bool
+is-side s o t q u k =
+    (once (formulaTWithD s o t q u k) && eqb (levelOfA (formulaTWithD s o t q u k)) 3)
+    && (asksAll (formulaTWithD s o t q u k) && agree apply (formulaTWithD s o t q u k) (leftSide (stateOf s o t q) (inputOf u k)))
 
--- states 1 to 4 replace T alone, states 5 to 9 T with D
-abbrev pub alone : Move → Bool
-alone (replaceT p) = true
-alone (replaceTWithD p q s t) = false
+every-side : (s : Side) (o : Basic) (t : Side) (q : Basic) (u : Side) (k : Basic) → T (is-side s o t q u k)
+every-side s o t q u k =
+    at-kind (λ u k. is-side s o t q u k)
+    (at-kind (λ t q. allKinds (λ u k. is-side s o t q u k))
+    (at-kind (λ s o. allKinds (λ t q. allKinds (λ u k. is-side s o t q u k))) tt s o) t q) u k
 
-pub alone-number : (x : State) → alone (moveOf x) ≡ leb (stateNumber x) 4
-alone-number x = same-entry (λ x i. alone (moveOf x)) (λ x i. leb (stateNumber x) 4) refl x inputA
+-- ---- a word that stands for its left side may replace T with D
+pub stands-replaces : (s : Side) (o : Basic) (t : Side) (q : Basic) (u : Side) (k : Basic) (p : Formula) → T (standsFor (stateOf s o t q) (inputOf u k) p)
+    → Replaces p (formulaTWithD s o t q u k)
+stands-replaces s o t q u k p ok =
+    let l = formulaTWithD s o t q u k in
+    let side = leftSide (stateOf s o t q) (inputOf u k) in
+    let tests = every-side s o t q u k in
+    let first = and-left (once l && eqb (levelOfA l) 3) (asksAll l && agree apply l side) tests in
+    let others = and-right (once l && eqb (levelOfA l) 3) (asksAll l && agree apply l side) tests in
+    let fits = and-right (once p) (eqb (levelOfA p) 2 && agree apply p side) ok in
+    let low = eqb→eq (levelOfA p) 2 (and-left (eqb (levelOfA p) 2) (agree apply p side) fits) in
+    let high = eqb→eq (levelOfA l) 3 (and-right (once l) (eqb (levelOfA l) 3) first) in
+    let same : (a b c d : Bool) → value apply a b c d p ≡ value apply a b c d l =
+    λ a b c d. agree-at apply p side (and-right (eqb (levelOfA p) 2) (agree apply p side) fits) a b c d ∙ sym (agree-at apply l side (and-right (asksAll l) (agree apply l side) others) a b c d) in
+    record {
+      once-new = and-left (once p) (eqb (levelOfA p) 2 && agree apply p side) ok;
+      once-old = and-left (once l) (eqb (levelOfA l) 3) first;
+      higher = omega (arith, low, high);
+      selects-same = all-agree apply p l same;
+      parts-same = same-parts p l (and-left (asksAll l) (agree apply l side) others) same;
+    }
+
+-- ---- right tables
+abbrev pub RightMove : Side → Basic → Side → Basic → Move → Type 0
+RightMove s o t q (replaceT p) = Replaces p (formulaT s o t q)
+RightMove s o t q (replaceTWithD f) = (u : Side) (k : Basic) → Replaces (f (inputOf u k)) (formulaTWithD s o t q u k)
+
+pub record Right (m : MoveTable) : Type 0 where
+  pub each : (s : Side) (o : Basic) (t : Side) (q : Basic) → RightMove s o t q (m (stateOf s o t q))
+
+-- a school's
+pub school-right : (f : State → Input → Formula) → ((x : State) (i : Input) → T (standsFor x i (f x i))) → Right (school f)
+school-right f ok = record { each = λ s o t q u k. stands-replaces s o t q u k (f (stateOf s o t q) (inputOf u k)) (ok (stateOf s o t q) (inputOf u k)) }
+
+-- ours
+abbrev right-move : Side → Basic → Side → Basic → Move → Bool
+right-move s o t q (replaceT p) = replaces p (formulaT s o t q)
+right-move s o t q (replaceTWithD f) = allKinds (λ u k. standsFor (stateOf s o t q) (inputOf u k) (f (inputOf u k)))
+
+every-move : (s : Side) (o : Basic) (t : Side) (q : Basic) → T (right-move s o t q (ours (stateOf s o t q)))
+every-move s o t q =
+    at-kind (λ t q. right-move s o t q (ours (stateOf s o t q)))
+    (at-kind (λ s o. allKinds (λ t q. right-move s o t q (ours (stateOf s o t q)))) tt s o) t q
+
+pub ours-right : Right ours
+ours-right = record { each = λ s o t q. go s o t q (ours (stateOf s o t q)) (every-move s o t q) }
+  where
+    go : (s : Side) (o : Basic) (t : Side) (q : Basic) (m : Move) → T (right-move s o t q m) → RightMove s o t q m
+    go s o t q (replaceT p) ok = may-replace p (formulaT s o t q) ok
+    go s o t q (replaceTWithD f) ok =
+        λ u k. stands-replaces s o t q u k (f (inputOf u k)) (at-kind (λ u k. standsFor (stateOf s o t q) (inputOf u k) (f (inputOf u k))) ok u k)
+
+-- a table as the code holds it
+pub table-right : {m : MoveTable} {signs lengths : List ℕ} → TableIs m signs lengths → Right m
+table-right {m} {signs} {lengths} K = go lengths (K .by)
+  where
+    go : (ns : List ℕ) → TableBy m signs ns → Right m
+    go [] k = subst Right (sym k) ours-right
+    go (x ∷ ns) k = subst Right (sym (k .1)) (school-right (k .0) (k .2 .stands))
+
+-- ---- a right table by states and inputs
+-- each state and each input has some operators and sides
+of-state : (P : State → Type 0) → ((s : Side) (o : Basic) (t : Side) (q : Basic) → P (stateOf s o t q)) → (x : State) → P x
+of-state P h state1 = h left plus left plus
+of-state P h state2 = h left plus right minus
+of-state P h state3 = h left minus left minus
+of-state P h state4 = h right minus left minus
+of-state P h state5 = h left plus left minus
+of-state P h state6 = h left minus left plus
+of-state P h state7 = h right minus left plus
+of-state P h state8 = h left minus right minus
+of-state P h state9 = h right minus right minus
+
+of-input : (P : Input → Type 0) → ((u : Side) (k : Basic) → P (inputOf u k)) → (i : Input) → P i
+of-input P h inputA = h left plus
+of-input P h inputB = h left minus
+of-input P h inputC = h right plus
+of-input P h inputD = h right minus
+
+level-t : (s : Side) (o : Basic) (t : Side) (q : Basic) → levelOfA (formulaT s o t q) ≡ 2
+level-t left o left q = refl
+level-t left o right q = refl
+level-t right o left q = refl
+level-t right o right q = refl
+
+module _ (m : MoveTable) (R : Right m) where
+  -- each entry names A once
+  pub once-entry : (x : State) (i : Input) → T (once (entryOf (m x) i))
+  once-entry x i = of-state (λ x. T (once (entryOf (m x) i))) (λ s o t q. go s o t q (m (stateOf s o t q)) (R .each s o t q)) x
+    where
+      go : (s : Side) (o : Basic) (t : Side) (q : Basic) (v : Move) → RightMove s o t q v → T (once (entryOf v i))
+      go s o t q (replaceT p) r = r .once-new
+      go s o t q (replaceTWithD f) r = of-input (λ i. T (once (f i))) (λ u k. r u k .once-new) i
+
+  -- and each move leaves two frames above A
+  pub two-left : (x : State) (i : Input) → length (leftAbove (m x) i) ≡ 2
+  two-left x i = of-state (λ x. length (leftAbove (m x) i) ≡ 2) (λ s o t q. go s o t q (m (stateOf s o t q)) (R .each s o t q)) x
+    where
+      high : (s : Side) (o : Basic) (t : Side) (q : Basic) (u : Side) (k : Basic) → levelOfA (formulaTWithD s o t q u k) ≡ 3
+      high s o t q u k =
+          eqb→eq (levelOfA (formulaTWithD s o t q u k)) 3
+          (and-right (once (formulaTWithD s o t q u k)) (eqb (levelOfA (formulaTWithD s o t q u k)) 3)
+          (and-left (once (formulaTWithD s o t q u k) && eqb (levelOfA (formulaTWithD s o t q u k)) 3) _ (every-side s o t q u k)))
+
+      go : (s : Side) (o : Basic) (t : Side) (q : Basic) (v : Move) → RightMove s o t q v → length (leftAbove v i) ≡ 2
+      go s o t q (replaceT p) r =
+          let z = length-append (kindsAbove p) (kindOfInput i ∷ []) in
+          omega (arith, r .higher, level-t s o t q, above-level (λ s o q. kind s (operatorOf o)) p)
+      go s o t q (replaceTWithD f) r =
+          of-input (λ i. length (kindsAbove (f i)) ≡ 2) (λ u k. omega (arith, r u k .higher, high s o t q u k, above-level (λ s o q. kind s (operatorOf o)) (f (inputOf u k)))) i
+
+-- ours replaces T alone in states 1 to 4, a school's in none
+pub alone-number : (x : State) → onlyT (ours x) ≡ leb (stateNumber x) 4
+alone-number x = same-entry (λ x i. onlyT (ours x)) (λ x i. leb (stateNumber x) 4) refl x inputA
+
+-- a row of the table stands for what its word stands for
+pub spell-padded : (l from to w : List ℕ) → spell l from to (padded w) ≡ spell l from to w
+spell-padded l from to w = spell-append l from to w (replicate (13 - length w) blank) ∙ rw (spell-blanks l from to (13 - length w)) (append-nil (spell l from to w))

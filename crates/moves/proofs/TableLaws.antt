@@ -9,8 +9,8 @@ use lib.ListN.{getD}
 use Rattle.tree.specs.Tree.{Operator, union, difference, intersection, Basic, plus, minus, operatorOf}
 use Rattle.tree.specs.Context.{Side, left, right}
 use Rattle.tree.specs.InnerPart.{kindOf}
-use Rattle.moves.specs.Moves.{State, state1, state2, state3, state4, state5, state6, state7, state8, state9, Input, inputA, inputB, inputC, inputD, stateOf, basic, stateWith, inputWith}
-use Rattle.moves.specs.InnerEntries.{stateNumber, optionalNumber, inputNumber, InputIs}
+use Rattle.moves.specs.Moves.{State, state1, state2, state3, state4, state5, state6, state7, state8, state9, Input, inputA, inputB, inputC, inputD, stateOf, basic, stateWith, inputWith, stateNumber, inputNumber}
+use Rattle.moves.specs.InnerEntries.{optionalNumber, InputIs}
 
 abbrev pub byState : {X : Type 0} → (State → X) → List X
 byState f = f state1 ∷ f state2 ∷ f state3 ∷ f state4 ∷ f state5 ∷ f state6 ∷ f state7 ∷ f state8 ∷ f state9 ∷ []

@@ -1,6 +1,4 @@
 pub mod Moves
+pub mod LeftSides
 pub mod NextState
-pub mod InnerWords
-pub mod InnerAbove
 pub mod InnerEntries
-pub mod InnerReplacing

@@ -1,28 +1,25 @@
--- Document 01, "The lift": the states, the inputs and the move entries (Table 9); state 9 by request 2 of 02.
+-- Document 01, "The lift": the states, the inputs and the move entries (Table 9); state 9 by request 2 of 02, schools' tables by request 7.
 use mathlib.Core.Option.{Option, some, none}
-use mathlib.Core.Bool.{Bool, true, false, cond, _||_}
-use mathlib.Core.List.{List, [], _∷_, _++_}
-use Rattle.tree.specs.Tree.{Operator, union, difference, intersection, Basic, plus, minus, operatorOf, Tree, node}
-use Rattle.tree.specs.Context.{Side, left, right, Frame, frame}
-
--- "A is the part lifted, B its sibling, C its uncle, D the sibling of the grandparent's part T": formulas over these
-pub data Formula : Type 0 where
-  A B C D : Formula
-  join : Basic → Formula → Formula → Formula
-
-infixl 70 _U_
-infixl 70 _−_
--- union, as 01 writes it
-abbrev pub _U_ : Formula → Formula → Formula
-x U y = join plus x y
-
--- difference, as 01 writes it
-abbrev pub _−_ : Formula → Formula → Formula
-x − y = join minus x y
+use Prim.Native.Nat.{ℕ, _+_, _-_, _*_}
+use Rattle.tree.specs.Tree.{Operator, union, difference, intersection, Basic, plus, minus}
+use Rattle.tree.specs.Context.{Side, left, right}
+use Rattle.words.specs.Formula.{Formula, A, B, C, D, _U_, _−_}
 
 -- "There are nine."
 pub data State : Type 0 where
   state1 state2 state3 state4 state5 state6 state7 state8 state9 : State
+
+-- a state's number
+abbrev pub stateNumber : State → ℕ
+stateNumber state1 = 1
+stateNumber state2 = 2
+stateNumber state3 = 3
+stateNumber state4 = 4
+stateNumber state5 = 5
+stateNumber state6 = 6
+stateNumber state7 = 7
+stateNumber state8 = 8
+stateNumber state9 = 9
 
 -- "States (where U stands, either order of its operands): 1 (A U B) U C; 2 C−(A U B); 3 (A−B)−C; 4 (B−A)−C; 5 (A U B)−C;
 -- 6 (A−B) U C; 7 (B−A) U C; 8 C−(A−B); 9 C−(B−A)", by A's side and its parent's operator, the parent's side and the grandparent's operator
@@ -72,48 +69,36 @@ under inputB a b c d = b
 under inputC a b c d = c
 under inputD a b c d = d
 
--- what a step does: it replaces T alone by a formula; or T with D, by one for each input a, b, c, d
+-- an input's number
+abbrev pub inputNumber : Input → ℕ
+inputNumber i = under i 0 1 2 3
+
+-- what a step does: it replaces T alone by a formula; or T with D, by one for each input
 pub data Move : Type 0 where
   replaceT : Formula → Move
-  replaceTWithD : Formula → Formula → Formula → Formula → Move
+  replaceTWithD : (Input → Formula) → Move
 
--- "One step replaces, in states 1 to 4, T alone: .. In states 5 to 8 it replaces T with D: .. State 9 with b gives (C−D)−(B−A)" (Table 9);
+-- a move table: what a step does in each state
+abbrev pub MoveTable : Type 0
+MoveTable = State → Move
+
+-- ours: "One step replaces, in states 1 to 4, T alone: .. In states 5 to 8 it replaces T with D: .. State 9 with b gives (C−D)−(B−A)" (Table 9);
 -- request 2: "With input a or c the step gives (C U D)−((B−D)−A), and with d it gives (D−C) U ((D−(D−B))−A)"
-abbrev pub moveOf : State → Move
-moveOf state1 = replaceT (A U (B U C))
-moveOf state2 = replaceT ((C − B) − A)
-moveOf state3 = replaceT (A − (B U C))
-moveOf state4 = replaceT ((B − C) − A)
-moveOf state5 = replaceTWithD ((D U (B − C)) U (A − C)) ((A − (C U D)) U ((B − C) − D)) ((A − C) U (D U (B − C))) ((D − (B − C)) − (A − C))
-moveOf state6 = replaceTWithD ((D U C) U (A − B)) ((A − (B U D)) U (C − D)) ((A − B) U (D U C)) ((D − C) − (A − B))
-moveOf state7 = replaceTWithD ((D U C) U (B − A)) (((B − D) − A) U (C − D)) ((B − A) U (D U C)) ((D − C) − (B − A))
-moveOf state8 = replaceTWithD ((D U (C − (C − B))) U (C − A)) (((C − D) − A) U ((C − (C − B)) − D)) ((C − A) U (D U (C − (C − B)))) ((D − (C − (C − B))) − (C − A))
-moveOf state9 = replaceTWithD ((C U D) − ((B − D) − A)) ((C − D) − (B − A)) ((C U D) − ((B − D) − A)) ((D − C) U ((D − (D − B)) − A))
+abbrev pub ours : MoveTable
+ours state1 = replaceT (A U (B U C))
+ours state2 = replaceT ((C − B) − A)
+ours state3 = replaceT (A − (B U C))
+ours state4 = replaceT ((B − C) − A)
+ours state5 = replaceTWithD (λ i. under i ((D U (B − C)) U (A − C)) ((A − (C U D)) U ((B − C) − D)) ((A − C) U (D U (B − C))) ((D − (B − C)) − (A − C)))
+ours state6 = replaceTWithD (λ i. under i ((D U C) U (A − B)) ((A − (B U D)) U (C − D)) ((A − B) U (D U C)) ((D − C) − (A − B)))
+ours state7 = replaceTWithD (λ i. under i ((D U C) U (B − A)) (((B − D) − A) U (C − D)) ((B − A) U (D U C)) ((D − C) − (B − A)))
+ours state8 = replaceTWithD (λ i. under i ((D U (C − (C − B))) U (C − A)) (((C − D) − A) U ((C − (C − B)) − D)) ((C − A) U (D U (C − (C − B)))) ((D − (C − (C − B))) − (C − A)))
+ours state9 = replaceTWithD (λ i. under i ((C U D) − ((B − D) − A)) ((C − D) − (B − A)) ((C U D) − ((B − D) − A)) ((D − C) U ((D − (D − B)) − A)))
 
--- a formula's value, of that of an operator and those of the parts
-abbrev pub value : {X : Type 0} → (Operator → X → X → X) → X → X → X → X → Formula → X
-value f a b c d A = a
-value f a b c d B = b
-value f a b c d C = c
-value f a b c d D = d
-value f a b c d (join o p q) = f (operatorOf o) (value f a b c d p) (value f a b c d q)
+-- request 7: a school's, by the formula of each of its words: "Each word stands for T with D."
+abbrev pub school : (State → Input → Formula) → MoveTable
+school f x = replaceTWithD (f x)
 
--- whether a formula names A
-abbrev pub namesA : Formula → Bool
-namesA A = true
-namesA B = false
-namesA C = false
-namesA D = false
-namesA (join o p q) = namesA p || namesA q
-
--- the frames above A in a formula that names A once, innermost first: f makes each of A's side, the operator and the other operand
-abbrev pub above : {X : Type 0} → (Side → Basic → Formula → X) → Formula → List X
-above f A = []
-above f B = []
-above f C = []
-above f D = []
-above f (join o p q) = cond (namesA p) (above f p ++ (f left o q ∷ [])) (above f q ++ (f right o p ∷ []))
-
--- A's context in such a formula, over the trees b, c and d
-abbrev pub framesOf : Tree → Tree → Tree → Formula → List Frame
-framesOf b c d p = above (λ s o q. frame s (operatorOf o) (value node b b c d q)) p
+-- where the word for a state and an input stands among the 36: "states rising and a to d within each"
+abbrev pub placeNumber : State → Input → ℕ
+placeNumber x i = 4 * (stateNumber x - 1) + inputNumber i

@@ -4,7 +4,8 @@ use mathlib.Core.Option.{Option, some, none}
 use mathlib.Core.List.{List, [], _∷_, _++_, map}
 use Rattle.tree.specs.Tree.{Operator, union, difference, operatorOf}
 use Rattle.tree.specs.Context.{Side, left, right, Frame, frame}
-use Rattle.moves.specs.Moves.{Formula, above, State, state1, state2, state3, state4, state5, state6, state7, state8, state9, basic, stateWith, Input, under, Move, replaceT, replaceTWithD, moveOf}
+use Rattle.words.specs.Formula.{Formula, above}
+use Rattle.moves.specs.Moves.{State, state1, state2, state3, state4, state5, state6, state7, state8, state9, basic, stateWith, Input, under, Move, replaceT, replaceTWithD}
 
 -- a frame's side and operator
 pub data Kind : Type 0 where
@@ -36,12 +37,12 @@ kindsAbove p = above (λ s o q. kind s (operatorOf o)) p
 -- "the operators and sides that the entry, in states 1 to 4 with the input, leaves above A"
 abbrev pub leftAbove : Move → Input → List Kind
 leftAbove (replaceT p) i = kindsAbove p ++ (kindOfInput i ∷ [])
-leftAbove (replaceTWithD p q s t) i = kindsAbove (under i p q s t)
+leftAbove (replaceTWithD f) i = kindsAbove (f i)
 
 -- "The new state is worked out from" these; after a step under an `I` there is no input and no next state
-abbrev pub stateAfter : State → Option Input → Option State
-stateAfter x (some i) = stateBelow (leftAbove (moveOf x) i)
-stateAfter x none = none
+abbrev pub stateAfter : Move → Option Input → Option State
+stateAfter m (some i) = stateBelow (leftAbove m i)
+stateAfter m none = none
 
 -- Table 10: "The state after a step, under inputs a b c d"; request 2: "The next state is 9 for a, b and c, and 7 for d"
 abbrev pub nextState : State → Input → State

@@ -7,10 +7,13 @@ use native.Mathlib.Omega.{arith}
 use lib.ListN.{length, length-append}
 use Rattle.tree.specs.Tree.{Operator, union, difference, intersection, Basic, plus, minus, operatorOf, Tree, node}
 use Rattle.tree.specs.Context.{Side, left, right, Frame, frame}
-use Rattle.moves.specs.Moves.{Formula, Move, replaceT, replaceTWithD, State, moveOf, basic, stateWith, inputA, inputOf, inputWith, under, value, framesOf}
+use Rattle.words.specs.Formula.{Formula, value, framesOf}
+use Rattle.moves.specs.Moves.{State, basic, stateWith, Input, inputA, inputOf, inputWith, Move, replaceT, replaceTWithD, MoveTable}
 use Rattle.moves.specs.NextState.{Kind, kind, kindOfFrame, kindOfInput, kindsAbove, stateBelow, stateIn, leftAbove, stateAfter}
-use Rattle.moves.proofs.NextStateLaws.{two-left, map-above}
-use Rattle.step.specs.Step.{blocked, moved, needs, step, stepBy}
+use Rattle.moves.proofs.MoveLaws.{two-left}
+use Rattle.words.proofs.FormulaLaws.{map-above}
+use Rattle.moves.proofs.MoveLaws.{Right, two-left}
+use Rattle.step.specs.Step.{blocked, moved, needs, moveAt, step, stepBy}
 use Rattle.step.proofs.StepLaws.{step-level}
 
 -- the frames of an entry, and then others
@@ -38,16 +41,15 @@ module _ (b c d : Tree) (u : Side) (r e : List Frame) where
       ap (map kindOfFrame) q ∙ entry-kinds b c c p (frame u (operatorOf w) d ∷ r)
       ∙ ap (λ (k : Kind). kindsAbove p ++ (k ∷ map kindOfFrame r)) (input-frame u w)
       ∙ sym (append-assoc (kindsAbove p) (kindOfInput (inputOf u w) ∷ []) (map kindOfFrame r))
-  left-frames (replaceTWithD x y z v) plus h =
-      let q : e ≡ framesOf b c d (under (inputOf u plus) x y z v) ++ r = cc in
-      ap (map kindOfFrame) q ∙ entry-kinds b c d (under (inputOf u plus) x y z v) r
-  left-frames (replaceTWithD x y z v) minus h =
-      let q : e ≡ framesOf b c d (under (inputOf u minus) x y z v) ++ r = cc in
-      ap (map kindOfFrame) q ∙ entry-kinds b c d (under (inputOf u minus) x y z v) r
+  left-frames (replaceTWithD f) plus h =
+      let q : e ≡ framesOf b c d (f (inputOf u plus)) ++ r = cc in
+      ap (map kindOfFrame) q ∙ entry-kinds b c d (f (inputOf u plus)) r
+  left-frames (replaceTWithD f) minus h =
+      let q : e ≡ framesOf b c d (f (inputOf u minus)) ++ r = cc in
+      ap (map kindOfFrame) q ∙ entry-kinds b c d (f (inputOf u minus)) r
 
-  with-input : (x : State) (w : Basic) → stepBy (moveOf x) b c (frame u (operatorOf w) d ∷ r) ≡ moved e → stateIn e ≡ stateAfter x (some (inputOf u w))
-  with-input x w h =
-      ap stateBelow (left-frames (moveOf x) w h) ∙ first-two (leftAbove (moveOf x) (inputOf u w)) (map kindOfFrame r) (two-left x (inputOf u w))
+  with-input : (v : Move) (w : Basic) → length (leftAbove v (inputOf u w)) ≡ 2 → stepBy v b c (frame u (operatorOf w) d ∷ r) ≡ moved e → stateIn e ≡ stateAfter v (some (inputOf u w))
+  with-input v w l h = ap stateBelow (left-frames v w h) ∙ first-two (leftAbove v (inputOf u w)) (map kindOfFrame r) l
 
   -- an `I` is then A's grandparent
   under-intersection : (m : Move) → length (leftAbove m inputA) ≡ 2 → stepBy m b c (frame u intersection d ∷ r) ≡ moved e → stateIn e ≡ none
@@ -63,29 +65,27 @@ module _ (b c d : Tree) (u : Side) (r e : List Frame) where
       go [] l = absurd (omega arith)
       go (kind s o ∷ []) l = none-second s (basic o)
       go (j ∷ (k ∷ ks)) l = absurd (let z = length-append ks (kindOfInput inputA ∷ []) in omega arith)
-  under-intersection (replaceTWithD x y z v) l h = absurd (let z : _≡_ {A = ℕ} 0 1 = cc in omega arith)
+  under-intersection (replaceTWithD f) l h = absurd (let z : _≡_ {A = ℕ} 0 1 = cc in omega arith)
 
-  by-operator : (x : State) (w : Operator) → stepBy (moveOf x) b c (frame u w d ∷ r) ≡ moved e → stateIn e ≡ stateAfter x (inputWith u (basic w))
-  by-operator x union h = with-input x plus h
-  by-operator x difference h = with-input x minus h
-  by-operator x intersection h = under-intersection (moveOf x) (two-left x inputA) h
+  pub by-operator : (v : Move) (w : Operator) → ((i : Input) → length (leftAbove v i) ≡ 2) → stepBy v b c (frame u w d ∷ r) ≡ moved e → stateIn e ≡ stateAfter v (inputWith u (basic w))
+  by-operator v union l h = with-input v plus (l (inputOf u plus)) h
+  by-operator v difference l h = with-input v minus (l (inputOf u minus)) h
+  by-operator v intersection l h = under-intersection v (l inputA) h
 
 -- "A's state in the tree after the step", of a node with the state x; without a D it has none then, nor under an `I`
-pub next-state : (s : Side) (o : Operator) (t : Side) (q : Operator) (u : Side) (w : Operator) (b c d : Tree) (r e : List Frame) (x : State)
-    → stateWith s (basic o) t (basic q) ≡ some x → step (frame s o b ∷ (frame t q c ∷ (frame u w d ∷ r))) ≡ moved e
-    → stateIn e ≡ stateAfter x (inputWith u (basic w))
-unfolding step
-next-state s o t q u w b c d r e x i h =
-    by-operator b c d u r e x w (sym (ap (λ (y : Option State). needs y (λ x. stepBy (moveOf x) b c (frame u w d ∷ r))) i) ∙ h)
+module _ {m : MoveTable} (R : Right m) (s : Side) (o : Operator) (t : Side) (q : Operator) (u : Side) (b c d : Tree) (r e : List Frame) (x : State)
+    (i : stateWith s (basic o) t (basic q) ≡ some x) where
+  pub next-state : (w : Operator) → step m (frame s o b ∷ (frame t q c ∷ (frame u w d ∷ r))) ≡ moved e → stateIn e ≡ stateAfter (m x) (inputWith u (basic w))
+  unfolding step
+  next-state w h = by-operator b c d u r e (m x) w (two-left m R x) (sym (ap (λ (y : Option State). needs y (λ x. stepBy (m x) b c (frame u w d ∷ r))) i) ∙ h)
 
--- request 6: the step after one under an `I` is refused with 27
-no-state-blocked : (e : List Frame) → 2 ≤ length e → stateIn e ≡ none → step e ≡ blocked
-unfolding step
-no-state-blocked [] h n = absurd (omega arith)
-no-state-blocked (f ∷ []) h n = absurd (omega arith)
-no-state-blocked (frame s o b ∷ (frame t q c ∷ r)) h n = ap (λ (y : Option State). needs y (λ x. stepBy (moveOf x) b c r)) n
+  -- request 6: the step after one under an `I` is refused with 27
+  no-state-blocked : (e : List Frame) → 2 ≤ length e → stateIn e ≡ none → step m e ≡ blocked
+  unfolding step
+  no-state-blocked [] h n = absurd (omega arith)
+  no-state-blocked (f ∷ []) h n = absurd (omega arith)
+  no-state-blocked (frame s o b ∷ (frame t q c ∷ r)) h n = ap (λ (y : Option State). needs y (λ x. stepBy (moveAt m r x) b c r)) n
 
-pub next-blocked : (s : Side) (o : Operator) (t : Side) (q : Operator) (u : Side) (b c d : Tree) (r e : List Frame) (x : State)
-    → stateWith s (basic o) t (basic q) ≡ some x → step (frame s o b ∷ (frame t q c ∷ (frame u intersection d ∷ r))) ≡ moved e → step e ≡ blocked
-next-blocked s o t q u b c d r e x i h =
-    no-state-blocked e (omega (arith, step-level (frame s o b ∷ (frame t q c ∷ (frame u intersection d ∷ r))) e h)) (next-state s o t q u intersection b c d r e x i h)
+  pub next-blocked : step m (frame s o b ∷ (frame t q c ∷ (frame u intersection d ∷ r))) ≡ moved e → step m e ≡ blocked
+  next-blocked h =
+      no-state-blocked e (omega (arith, step-level R (frame s o b ∷ (frame t q c ∷ (frame u intersection d ∷ r))) e h)) (next-state intersection h)

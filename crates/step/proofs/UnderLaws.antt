@@ -9,7 +9,7 @@ use Rattle.tree.specs.Context.{left, right, Frame, frame, plug, before}
 use Rattle.tree.specs.InnerPart.{Part, aboveOf}
 use Rattle.tree.proofs.PartLaws.{part-length, part-own, before-right}
 use Rattle.tree.specs.declared.Above.the-variants as above
-use Rattle.moves.specs.InnerWords.{Range}
+use Rattle.words.specs.InnerWords.{Range}
 use Rattle.step.specs.InnerSteps.{UnderIs}
 use Rattle.step.specs.declared.Stretch.{Stretch}
 

@@ -1,9 +1,10 @@
--- One step of a lift. It leaves the lifted part A as it is, so it is a function of A's context, of the three innermost frames above A.
+-- One step of a lift, by a move table. It leaves the lifted part A as it is, so it is a function of A's context, of the three innermost frames above A.
 use mathlib.Core.Option.{Option, some, none}
 use mathlib.Core.List.{List, [], _∷_, _++_}
 use Rattle.tree.specs.Tree.{Tree}
 use Rattle.tree.specs.Context.{Frame, frame}
-use Rattle.moves.specs.Moves.{Move, replaceT, replaceTWithD, moveOf, basic, stateWith, inputWith, under, framesOf}
+use Rattle.moves.specs.Moves.{State, Move, replaceT, replaceTWithD, MoveTable, ours, basic, stateWith, inputWith}
+use Rattle.words.specs.Formula.{framesOf}
 
 -- no step (01's number 15), none because of an `I` (27, of request 6), or the new frames above A
 pub data Outcome : Type 0 where
@@ -21,11 +22,16 @@ needs (some x) f = f x
 -- in states 5 to 9", where there is no D
 abbrev pub stepBy : Move → Tree → Tree → List Frame → Outcome
 stepBy (replaceT p) b c r = moved (framesOf b c c p ++ r)
-stepBy (replaceTWithD p q s t) b c [] = stuck
-stepBy (replaceTWithD p q s t) b c (frame u w d ∷ r) = needs (inputWith u (basic w)) (λ i. moved (framesOf b c d (under i p q s t) ++ r))
+stepBy (replaceTWithD f) b c [] = stuck
+stepBy (replaceTWithD f) b c (frame u w d ∷ r) = needs (inputWith u (basic w)) (λ i. moved (framesOf b c d (f i) ++ r))
 
--- the step of the part whose context is given; "15 the step .. has no grandparent": at level 0 or 1, where a lift is refused with 14 before
-unfoldable pub step : List Frame → Outcome
-step [] = stuck
-step (f ∷ []) = stuck
-step (frame s o b ∷ (frame t q c ∷ r)) = needs (stateWith s (basic o) t (basic q)) (λ x. stepBy (moveOf x) b c r)
+-- a state's move by a table, where these frames are above T; request 7: "At level 2 of the tree, states 1 to 4 still use our own entries"
+abbrev pub moveAt : MoveTable → List Frame → State → Move
+moveAt m [] x = ours x
+moveAt m (f ∷ r) x = m x
+
+-- the step of the part whose context is given, by a table; "15 the step .. has no grandparent": at level 0 or 1, where a lift is refused with 14 before
+unfoldable pub step : MoveTable → List Frame → Outcome
+step m [] = stuck
+step m (f ∷ []) = stuck
+step m (frame s o b ∷ (frame t q c ∷ r)) = needs (stateWith s (basic o) t (basic q)) (λ x. stepBy (moveAt m r x) b c r)

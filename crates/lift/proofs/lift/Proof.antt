@@ -1,97 +1,31 @@
--- `lift` meets its contract: each test is the definition's, in order.
-use mathlib.Core.Path.{sym, ap, _∙_}
-use native.Mathlib.Omega.{arith}
-use Prim.Native.Nat.{_≤_}
-use lib.ListN.{length}
-use Rattle.tree.specs.Tree.{mostNodes}
-use Rattle.tree.proofs.TreeLaws.{postfix-length}
-use Rattle.tree.proofs.ParseLaws.{IsTree, the-tree}
-use Rattle.lift.proofs.WholeLaws.{says-11, says-12, says-13, says-14, runs-on, the-part, levels-below, refuses, lifts-same}
+-- `lift` meets its contract: no words stand for our own table.
+use mathlib.Core.Path.{refl}
+use Rattle.moves.specs.Moves.{ours}
 use borrow.Author.Needs.{needs}
 use Rattle.lift.proofs.lift.Statement.{statement}
 use Rattle.lift.proofs.lift.Tie as tie
 
--- the tree, where the test of `is_tree` was passed
-given : (c : tie.Then2) → IsTree (c .before .before .before .before .before .args .tree .now)
-given c =
-    let args = c .before .before .before .before .before .args in
-    the-tree (args .tree .now) (sym (c .before .is-tree .ensures) ∙ c .if2 .taken)
+slice-aggregate-lift-by : tie.Need-slice-aggregate-lift-by
+slice-aggregate-lift-by c = search needs
 
-returns : tie.Need-returns
-returns c = let g = c .before .before .before .args in
-    let e = says-11 (length (g .out .now)) (g .tree .now) (g .position) (g .levels) (c .if1 .taken) in
-    refuses e
+slice-aggregate-lift-by-2 : tie.Need-slice-aggregate-lift-by-2
+slice-aggregate-lift-by-2 c = search needs
 
-is-tree-requires : tie.Need-is-tree-requires
-is-tree-requires c κs = search needs
-
-returns-2 : tie.Need-returns-2
-returns-2 c =
-    let if1 = c .before .before .before .if1 in
-    let g = c .before .before .before .before .before .before .args in
-    let e = says-13 (length (g .out .now)) (g .tree .now) (g .position) (g .levels) (if1 .left) (given (c .before)) (c .if3 .taken) in
-    refuses e
-
-add-to : tie.Need-add-to
-add-to c = search needs
-
-level-of-requires : tie.Need-level-of-requires
-level-of-requires c κs = search needs
-
-returns-3 : tie.Need-returns-3
-returns-3 c =
-    let if1 = c .before .before .before .before .before .if1 in
-    let g = c .before .before .before .before .before .before .before .before .args in
-    let W = given (c .before .before .before) in
-    let q = c .before .before .if3 .left in
-    let P = the-part (length (g .out .now)) (g .tree .now) (g .position) (g .levels) (if1 .left) W q in
-    let e = says-14 (length (g .out .now)) (g .tree .now) (g .position) (g .levels) (if1 .left) W q (c .before .level-of .result) (c .before .level-of .ensures .0 _ _ _ P) (c .if4 .taken) in
-    refuses e
-
-lift-part-requires : tie.Need-lift-part-requires
-lift-part-requires c κs =
-    let if1 = c .before .before .before .before .before .before .if1 in
-    let before = c .before .before .before .before in
-    let if3 = c .before .before .before .if3 in
-    let g = before .before .before .before .before .before .args in
-    let W = given before in
-    let P = the-part (length (g .out .now)) (g .tree .now) (g .position) (g .levels) (if1 .left) W (if3 .left) in
-    let most : length (g .tree .now) ≤ mostNodes = omega (arith, ap length (W .list), postfix-length (W .tree), W .most) in
-    ((_, _, _, P), ((most, if1 .left), omega (arith, most, c .before .before .level-of .ensures .1, levels-below (g .levels) (c .before .before .level-of .result) (c .before .if4 .left))))
+lift-by-requires : tie.Need-lift-by-requires
+lift-by-requires c κs = (ours, record { by = refl })
 
 same-length : tie.Need-same-length
 same-length c = search needs
 
-returns-4 : tie.Need-returns-4
-returns-4 c =
-    let if1 = c .before .before .before .before .before .before .before .before .before .if1 in
-    let before = c .before .before .before .before .before .before .before in
-    let if3 = c .before .before .before .before .before .before .if3 in
-    let level-of = c .before .before .before .before .before .level-of in
-    let if4 = c .before .before .before .before .if4 in
-    let g = before .before .before .before .before .before .args in
-    let W = given before in
-    let q = if3 .left in
-    let P = the-part (length (g .out .now)) (g .tree .now) (g .position) (g .levels) (if1 .left) W q in
-    let e = runs-on (length (g .out .now)) (g .tree .now) (g .position) (g .levels) (if1 .left) W q (level-of .result) (level-of .ensures .0 _ _ _ P) (if4 .left) in
-    lifts-same e (c .before .before .lift-part .ensures .lifts _ _ _ P)
-
-returns-5 : tie.Need-returns-5
-returns-5 c = let g = c .before .before .before .before .before .args in
-    let e = says-12 (length (g .out .now)) (g .tree .now) (g .position) (g .levels) (c .before .before .if1 .left) (sym (c .before .is-tree .ensures) ∙ c .if2 .left) in
-    refuses e
+returns : tie.Need-returns
+returns c = c .before .before .lift-by .ensures ours (record { by = refl })
 
 pub lift-spec : {M : Type 1} → statement M
 lift-spec =
     tie.close
     (tie.spec
-    returns
-    is-tree-requires
-    returns-2
-    add-to
-    level-of-requires
-    returns-3
-    lift-part-requires
+    slice-aggregate-lift-by
+    slice-aggregate-lift-by-2
+    lift-by-requires
     same-length
-    returns-4
-    returns-5)
+    returns)

@@ -14,25 +14,25 @@ use Rattle.lift.proofs.lift_part.Statement.{statement}
 use Rattle.lift.proofs.lift_part.Tie as tie
 
 -- the part, from the start that was found
-from-start : (c : tie.After-part-start) (from : ℕ) (a : Tree) (k : List Frame) → let g = c .before .before .before .args in
+from-start : (c : tie.After-part-start) (from : ℕ) (a : Tree) (k : List Frame) → let g = c .before .before .before .before .before .args in
     Part (g .list .now) from (g .to) a k → Part (g .list .now) (c .part-start .result) (g .to) a k
 from-start c from a k P = rw (c .part-start .ensures from a k P) P
 
 -- the node in the first buffer
-stands : (c : tie.After-copy) (from : ℕ) (a : Tree) (k : List Frame) → let g = c .before .before .before .before .before .before .args in
+stands : (c : tie.After-copy) (from : ℕ) (a : Tree) (k : List Frame) → let g = c .before .before .before .before .before .before .before .before .args in
     Part (g .list .now) from (g .to) a k
     → Standing (take (length (g .list .now)) (c .copy .last .1 .0)) (record { from = c .before .before .before .part-start .result; to = g .to; state = c .before .before .first-state .result }) a k
 stands c from a k P =
-    let g = c .before .before .before .before .before .before in
+    let g = c .before .before .before .before .before .before .before .before in
     let Q = from-start (c .before .before .before) from a k P in
     stands-first (c .copy .ensures) (g .pre .1 .0 .0) Q (c .before .before .first-state .ensures a k Q)
 
 part-start-requires : tie.Need-part-start-requires
-part-start-requires c κs = omega (arith, part-length (c .before .before .pre .0 .3))
+part-start-requires c κs = omega (arith, part-length (c .before .before .before .before .pre .0 .3))
 
 first-state-requires : tie.Need-first-state-requires
 first-state-requires c κs =
-    let pre = c .before .before .before .pre in
+    let pre = c .before .before .before .before .before .pre in
     let L = pre .0 in (_, _, from-start c (L .0) (L .1) (L .2) (L .3))
 
 slice-aggregate-copy : tie.Need-slice-aggregate-copy
@@ -50,9 +50,9 @@ slice-aggregate-run-2 c = search needs
 run-requires : tie.Need-run-requires
 run-requires c κs =
     let before = c .before .before .before .before in
-    let g = before .before .before .before .before .before .before in
+    let g = before .before .before .before .before .before .before .before .before in
     let L = g .pre .0 in
-    ((_, _, stands before (L .0) (L .1) (L .2) (L .3)), ((g .pre .1 .0 .0, search needs), ((omega arith, g .pre .1 .0 .1), omega (arith, g .pre .1 .1))))
+    ((_, _, stands before (L .0) (L .1) (L .2) (L .3)), ((g .pre .1 .0 .0, search needs), ((omega arith, g .pre .1 .0 .1), (omega (arith, g .pre .1 .1 .0), g .pre .1 .1 .1))))
 
 same-length : tie.Need-same-length
 same-length c = search needs
@@ -61,7 +61,7 @@ returns : tie.Need-returns
 returns c =
     let before = c .before .before .before .before .before .before .before .before .before in
     let run = c .before .before .before .before .run in
-    record { lifts = λ from a k P. run .ensures .lifts a k (stands before from a k P) }
+    λ m K. record { lifts = λ from a k P. run .ensures m K .lifts a k (stands before from a k P) }
 
 pub lift-part-spec : {M : Type 1} → statement M
 lift-part-spec =

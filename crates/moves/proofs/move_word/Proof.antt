@@ -1,9 +1,9 @@
 -- `move_word` meets its contract: the constant table is the definition's words in order, each padded to 13 signs.
 use mathlib.Core.List.{[]}
 use Prim.Native.Nat.{_%_}
-use Rattle.moves.specs.Moves.{moveOf}
-use Rattle.moves.specs.InnerWords.{word, padded}
-use Rattle.moves.specs.InnerEntries.{entryOf}
+use Rattle.moves.specs.Moves.{ours}
+use Rattle.words.specs.Word.{word}
+use Rattle.moves.specs.InnerEntries.{padded, entryOf}
 use Rattle.moves.proofs.TableLaws.{entry-at}
 use borrow.Author.Needs.{needs}
 use Rattle.moves.proofs.move_word.Statement.{statement}
@@ -25,7 +25,7 @@ array-copy-out-result : tie.Need-array-copy-out-result
 array-copy-out-result c = search needs
 
 returns : tie.Need-returns
-returns c = λ x i. entry-at (λ x i. padded (word (entryOf (moveOf x) i))) [] x i (c .before .before .args .state) (c .before .before .args .input % 4)
+returns c = λ x i. entry-at (λ x i. padded (word (entryOf (ours x) i))) [] x i (c .before .before .args .state) (c .before .before .args .input % 4)
 
 pub move-word-spec : {M : Type 1} → statement M
 move-word-spec =

@@ -1,130 +1,84 @@
--- `step` meets its contract: the plan says what the step is, and StepAnswerLaws what it answers.
+use native.Mathlib.Omega.{arith}
 use mathlib.Core.Path.{subst}
 use mathlib.Core.List.{List}
-use native.Mathlib.Omega.{arith}
 use Rattle.tree.specs.Tree.{Tree}
 use Rattle.tree.specs.Context.{Frame}
+use Rattle.moves.specs.Moves.{MoveTable}
+use Rattle.moves.specs.InnerEntries.{TableIs}
 use Rattle.step.specs.InnerStanding.{Standing}
 use Rattle.step.specs.InnerSteps.{Planned, ReplaceIs}
-use Rattle.step.proofs.UnderLaws.{part-range}
-use Rattle.step.proofs.StepAnswerLaws.{within, in-table, too-long, ends-within, step-done}
+use Rattle.moves.proofs.MoveLaws.{table-right}
+use Rattle.step.proofs.StepAnswerLaws.{table-alone}
 use borrow.Author.Needs.{needs}
 use Rattle.step.proofs.step.Statement.{statement}
 use Rattle.step.proofs.step.Tie as tie
+use Rattle.step.proofs.step.Reads as reads
+use Rattle.step.proofs.step.Lts as lts
+use Rattle.step.proofs.last_alone.Reads as last-alone-reads
+use Rattle.step.proofs.plan_step.Reads as plan-step-reads
+use Rattle.step.proofs.replace_by.Reads as replace-by-reads
 
+-- src/lib.rt:207:9
 -- what the plan says, where a stretch is replaced
-plan : (c : tie.After-known-told) (a : Tree) (k : List Frame) → let g = c .before .before .before .before .before .before .args in
-    let v = c .before .input .given .0 in
-    Standing (g .list .now) (g .node) a k → ReplaceIs (g .list .now) (g .node) k (v .0) (v .1 .0) (v .1 .1 .0) (v .1 .1 .1 .0) (v .1 .1 .1 .1 .0)
-plan c a k S =
-    let g = c .before .before .before .before .before .before .args in
-    subst (Planned (g .list .now) (g .node) k) (c .before .input .given .1) (c .before .before .before .plan-step .ensures a k S)
+plan : (c : tie.After-known-told) (m : MoveTable) → let g = c .before .before .before .before .before .before .before .before .before .args in
+    let v = c .before .alone .given .0 in
+    TableIs m (g .signs .now) (g .lengths .now) → (a : Tree) (k : List Frame) → Standing (g .list .now) (g .node) a k
+    → ReplaceIs m (g .list .now) (g .node) k (v .0) (v .1 .0) (v .1 .1 .0) (v .1 .1 .1 .0) (v .1 .1 .1 .1 .0) (v .1 .1 .1 .1 .1 .0)
+plan c m K a k S =
+    let g = c .before .before .before .before .before .before .before .before .before .args in
+    subst (Planned m (g .list .now) (g .node) k) (c .before .alone .given .1)
+    (c .before .before .before .plan-step .ensures m (table-right K) (table-alone K _ (c .before .before .before .before .last-alone .ensures)) a k S)
 
+last-alone-requires : tie.Need-last-alone-requires
+last-alone-requires c κs = search needs
+
+-- src/lib.rt:208:11
 plan-step-requires : tie.Need-plan-step-requires
 plan-step-requires c κs = search needs
 
+-- src/lib.rt:209:24
 enum-told : tie.Need-enum-told
 enum-told c = search needs
 
+-- src/lib.rt:210:26
 enum-told-2 : tie.Need-enum-told-2
 enum-told-2 c = search needs
 
-enum-known-input : tie.Need-enum-known-input
-enum-known-input c = search needs
+-- src/lib.rt:211:23
+enum-known-alone : tie.Need-enum-known-alone
+enum-known-alone c = search needs
 
-move-word-requires : tie.Need-move-word-requires
-move-word-requires c κs =
-    let L = c .before .before .before .before .before .before .pre .0 in
-    in-table (plan c (L .0) (L .1) (L .2))
+-- src/lib.rt:212:13
+replace-by-requires : tie.Need-replace-by-requires
+replace-by-requires c κs = let P = c .before .before .before .before .before .before .before .before .before .before .pre in let S = P .0 .0 in ((P .0 .1 .0, P .0 .1 .1, (S .0, S .1, S .2, plan (c .before) (P .0 .1 .0) (P .0 .1 .1) (S .0) (S .1) (S .2))), P .1)
 
-slice-aggregate-replace : tie.Need-slice-aggregate-replace
-slice-aggregate-replace c = search needs
-
-replace-requires : tie.Need-replace-requires
-replace-requires c κs =
-    let pre = c .before .before .before .before .before .before .before .before .before .pre in
-    let L = pre .0 in
-    let H = plan (c .before .before .before) (L .0) (L .1) (L .2) in
-    let w = part-range (H .stretch) in
-    (within H (part-range (L .2 .part)), ((w .low, w .high), (pre .1, search needs)))
-
-enum-told-3 : tie.Need-enum-told-3
-enum-told-3 c = search needs
-
-enum-known-nodes : tie.Need-enum-known-nodes
-enum-known-nodes c = search needs
-
-sub-t24 : tie.Need-sub-t24
-sub-t24 c =
-    let L = c .before .before .before .before .before .before .before .before .before .before .before .before .before .before .before .before .pre .0 in
-    omega (arith, L .2 .part .ends)
-
-add-t25 : tie.Need-add-t25
-add-t25 c =
-    let L = c .before .before .before .before .before .before .before .before .before .before .before .before .before .before .before .before .pre .0 in
-    let word = c .before .before .before .before .before .before .before .before .before .move-word in
-    let made = c .before .before .before .before .before .before .replace in
-    let H = plan (c .before .before .before .before .before .before .before .before .before .before) (L .0) (L .1) (L .2) in
-    omega (arith, ends-within H (L .2) (word .ensures) (made .ensures) (c .before .before .nodes .given .1))
-
-slice-aggregate-next-state : tie.Need-slice-aggregate-next-state
-slice-aggregate-next-state c = search needs
-
-next-state-requires : tie.Need-next-state-requires
-next-state-requires c κs =
-    let L = c .before .before .before .before .before .before .before .before .before .before .before .before .before .before .before .before .before .pre .0 in
-    let word = c .before .before .before .before .before .before .before .before .before .before .move-word in
-    word .ensures
-
+-- src/lib.rt:195:1
 returns : tie.Need-returns
-returns c = λ a k S.
-    let g = c .before .before .before .before .before .args in
-    subst (Planned (g .list .now) (g .node) k) (c .enum-told .given .1) (c .before .before .plan-step .ensures a k S)
+returns c = λ m K a k S. let g = c .before .before .before .before .before .before .before .before .args in subst (Planned m (g .list .now) (g .node) k) (c .enum-told .given .1) (c .before .before .plan-step .ensures m (table-right K) (table-alone K _ (c .before .before .before .last-alone .ensures)) a k S)
 
+-- src/lib.rt:195:1
 returns-2 : tie.Need-returns-2
-returns-2 c = λ a k S.
-    let g = c .before .before .before .before .before .args in
-    subst (Planned (g .list .now) (g .node) k) (c .enum-told2 .given .1) (c .before .before .plan-step .ensures a k S)
+returns-2 c = λ m K a k S. let g = c .before .before .before .before .before .before .before .before .args in subst (Planned m (g .list .now) (g .node) k) (c .enum-told2 .given .1) (c .before .before .plan-step .ensures m (table-right K) (table-alone K _ (c .before .before .before .last-alone .ensures)) a k S)
 
+-- src/lib.rt:195:1
 same-length : tie.Need-same-length
 same-length c = search needs
 
+-- src/lib.rt:195:1
 returns-3 : tie.Need-returns-3
-returns-3 c = λ a k S.
-    let word = c .before .before .before .before .before .before .before .move-word in
-    let made = c .before .before .before .before .replace in
-    too-long (plan (c .before .before .before .before .before .before .before .before) a k S) S (word .ensures) (made .ensures) (c .enum-told3 .given .1)
-
-same-length-2 : tie.Need-same-length-2
-same-length-2 c = search needs
-
-returns-4 : tie.Need-returns-4
-returns-4 c = λ a k S.
-    let word = c .before .before .before .before .before .before .before .before .before .before .before .move-word in
-    let made = c .before .before .before .before .before .before .before .before .replace in
-    let H = plan (c .before .before .before .before .before .before .before .before .before .before .before .before) a k S in
-    step-done H S (word .ensures) (made .ensures) (c .before .before .before .before .nodes .given .1) (c .next-state .result) (c .next-state .ensures)
+returns-3 c = λ m K a k S. c .before .before .replace-by .ensures m a k K S (plan (c .before .before .before .before) m K a k S)
 
 pub step-spec : {M : Type 1} → statement M
 step-spec =
     tie.close
     (tie.spec
+    last-alone-requires
     plan-step-requires
     enum-told
     enum-told-2
-    enum-known-input
-    move-word-requires
-    slice-aggregate-replace
-    replace-requires
-    enum-told-3
-    enum-known-nodes
-    sub-t24
-    add-t25
-    slice-aggregate-next-state
-    next-state-requires
+    enum-known-alone
+    replace-by-requires
     returns
     returns-2
     same-length
-    returns-3
-    same-length-2
-    returns-4)
+    returns-3)
