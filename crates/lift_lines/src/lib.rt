@@ -94,7 +94,16 @@ pub fn lift_all(
         let here = sheet::line_at(sheet, at);
         let line = here.line;
         let asked = lift_numbers(line);
-        let done = lift_one(tree, entries, asked.position, asked.levels, out, next, signs, lengths);
+        let done = lift_one(
+            tree,
+            entries,
+            asked.position,
+            asked.levels,
+            out,
+            next,
+            signs,
+            lengths,
+        );
         at = here.next;
         entries = done.nodes;
         next = done.next;

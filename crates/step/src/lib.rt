@@ -192,13 +192,7 @@ fn last_alone(words: usize) -> usize
 }
 
 // One step of a lift, written to `out`, by the table whose words' signs and lengths are given; without any by ours.
-pub fn step(
-    list: &[u16],
-    node: Node,
-    out: &mut [u16],
-    signs: &[u8],
-    lengths: &[u8],
-) -> Stepped
+pub fn step(list: &[u16], node: Node, out: &mut [u16], signs: &[u8], lengths: &[u8]) -> Stepped
     requires { ⌜ Stands (now list) node × SomeTable (now signs) (now lengths) ⌝ }
     requires { ⌜ (length (now list) ≤ mostNodes) × (mostNodes ≤ length (now out)) ⌝ }
     ensures { λ r. ⌜ ((m : MoveTable) → TableIs m (now (signs .entry)) (now (lengths .entry)) → (a : Tree) (c : List Frame) → Standing (now (list .entry)) node a c
