@@ -1,7 +1,7 @@
 -- The third demand holds of every key that answers an accepted sheet.
 use mathlib.Core.Path.{_≡_, refl, sym, ap, subst, _∙_, fun-ext}
 use mathlib.Core.Bool.{Bool}
-use mathlib.Core.List.{List, [], _++_}
+use mathlib.Core.List.{List, [], _∷_, _++_}
 use Prim.Native.Nat.{ℕ, _≤_}
 use native.Mathlib.Omega.{arith}
 use lib.ListN.{length, drop}
@@ -16,7 +16,7 @@ use Rattle.code.specs.Code.{code, codePlace, ownCode, runFirst, runCount}
 use Rattle.code.specs.Effects.{Every, Names, stretch, ClosedRun, LoadsApart}
 use Rattle.code.proofs.Theorems.{thirteen-suffice, run-own, closed-run, loads-apart, code-lights}
 use Rattle.gather.specs.Gathering.{CannotBeGathered}
-use Rattle.printing.specs.Key.{Held, unmarked, heldRun, cannot}
+use Rattle.printing.specs.Key.{LiftAnswer, Held, unmarked, heldRun, cannot}
 use Rattle.moves.specs.Moves.{MoveTable}
 use Rattle.moves.proofs.MoveLaws.{Right}
 use Rattle.sheet.specs.Reading.{LiftLine}
@@ -116,3 +116,11 @@ demand-3 R t marks ls h unmarked is E = rw (E .1) (plain-demand R t marks ls h (
 demand-3 {m} R t marks ls h (heldRun first count) is E =
     held-demand t (treeAfter m t ls) (equivalent-sym (after-keeps R t ls h .equivalent)) marks first count is (E .0) (E .1) m ls refl
 demand-3 R t marks ls h cannot is E = rw (E .2) (never-demand R t marks ls h (E .0) (E .1))
+
+-- 19 is said only where there are marks
+pub some-mark : {m : MoveTable} {t : Tree} {marks : List ℕ} {ls : List LiftLine} {lifts : List LiftAnswer} {held : Held} {is : List Instruction} → Demand3 m t marks ls lifts held is → held ≡ cannot → 1 ≤ length marks
+some-mark {m} {t} {marks} {ls} {lifts} {held} {is} D e = go marks (D .plain)
+  where
+    go : (marks : List ℕ) → (marks ≡ [] → (held ≡ unmarked) × (is ≡ code (treeAfter m t ls) 0)) → 1 ≤ length marks
+    go [] f = absurd (let u = sym e ∙ f refl .0 in let y : _≡_ {A = ℕ} 0 1 = cc in omega arith)
+    go (g ∷ gs) f = omega arith

@@ -7,3 +7,4 @@ pub mod SameKeyLaws
 pub mod OlderLaws
 pub mod SampleLaws
 pub mod AnswerLaws
+pub mod SchoolLaws

@@ -1,10 +1,8 @@
 -- What a sheet's key says of the drawings that are marked against it.
 use mathlib.Core.Path.{_≡_, refl}
-use mathlib.Core.List.{List, [], _∷_}
+use mathlib.Core.List.{List}
 use mathlib.Core.Option.{some}
-use Prim.Native.Nat.{ℕ, _≤_}
-use native.Mathlib.Omega.{arith}
-use lib.ListN.{length}
+use Prim.Native.Nat.{ℕ}
 use Rattle.tree.specs.Tree.{Tree}
 use Rattle.tree.specs.Parse.{treeOf}
 use Rattle.player.specs.Instructions.{Instruction}
@@ -14,6 +12,7 @@ use Rattle.sheet.specs.Reading.{ReadingState, accepted, reading}
 use Rattle.sheet.specs.Typed.{typed}
 use Rattle.printing.specs.Key.{LiftAnswer, heldRun, cannot}
 use Rattle.key.specs.Demand.{Demand3}
+use Rattle.key.proofs.DemandLaws.{some-mark}
 use Rattle.marking.specs.Marking.{mark, markingSays, Marks}
 use Rattle.marking.specs.declared.Marking.{Marking}
 use Rattle.marking.proofs.Theorems.{right-exactly, right-typed, cannot-be-right}
@@ -22,11 +21,7 @@ use Rattle.marking.proofs.Theorems.{right-exactly, right-typed, cannot-be-right
 module _ (m : MoveTable) (question : List ℕ) (q : ReadingState) (e : reading question ≡ accepted q) (t : Tree) (is : treeOf (q .entries) ≡ some t) (lifts : List LiftAnswer) (code : List Instruction) where
   -- "For a question answered 19 no drawing is ever right."
   pub answered-19 : Demand3 m t (q .marks) (q .lifts) lifts cannot code → (candidate : List ℕ) (r : Marking) → Marks question candidate r → markingSays r ≡ mark 0 → ⊥
-  answered-19 D = cannot-be-right question q e t is (D .never refl) (some-mark (q .marks) refl)
-    where
-      some-mark : (marks : List ℕ) → q .marks ≡ marks → 1 ≤ length marks
-      some-mark [] z = absurd (let u = D .plain z .0 in let y : _≡_ {A = ℕ} 0 1 = cc in omega arith)
-      some-mark (g ∷ marks) z = omega arith
+  answered-19 D = cannot-be-right question q e t is (D .never refl) (some-mark D refl)
 
   -- the tree of the key's code, gathered where there are marks, is right
   pub key-tree-right : Right m → (first count : ℕ) (D : Demand3 m t (q .marks) (q .lifts) lifts (heldRun first count) code) (r : Marking)

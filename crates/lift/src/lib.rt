@@ -76,17 +76,9 @@ fn run(
         Stepped::Stuck => Lifted::Refused(NO_STEP),
         Stepped::Blocked => Lifted::Refused(THROUGH_INTERSECTION),
         Stepped::TooLong => Lifted::Refused(TOO_LONG),
-        Stepped::Done(count, next) => run(
-            y,
-            x,
-            count,
-            next,
-            levels - 1,
-            looks + 1,
-            out,
-            signs,
-            lengths,
-        ),
+        Stepped::Done(size, next) => {
+            run(y, x, size, next, levels - 1, looks + 1, out, signs, lengths)
+        }
     }
 }
 

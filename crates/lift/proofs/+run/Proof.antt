@@ -47,11 +47,11 @@ whole t g = length-take-le (g .args .nodes) (g .args .x .now) (omega (arith, g .
 -- what the step answered, where it was done
 step-done : (t : ℕ) (c : run-lts.After-known-told (calls t) (run-at t) run.Post) (m : MoveTable)
     → let g = c .before .before .before .before .before .before .before .before .before .before .before .before .before .before .args in
-    let v = c .before .count .given .0 in
+    let v = c .before .size .given .0 in
     TableIs m (g .signs .now) (g .lengths .now) → (a : Tree) (k : List Frame) → Standing (take (g .nodes) (g .x .now)) (g .node) a k → StepDone m a k (v .0) (v .1 .0) (c .before .before .before .before .before .step .last .1 .1 .0)
 step-done t c m K a k S =
     let r = c .before .before .before .before .before .step in
-    subst (λ (x : Stepped). StepIs m a k x (r .last .1 .1 .0)) (c .before .count .given .1) (r .ensures m K a k S)
+    subst (λ (x : Stepped). StepIs m a k x (r .last .1 .1 .0)) (c .before .size .given .1) (r .ensures m K a k S)
 
 run-slice-reshare-prefix-copy : (t : ℕ) → run-lts.Need-slice-reshare-prefix-copy (calls t) (run-at t) run.Post
 run-slice-reshare-prefix-copy t c = search needs
@@ -96,8 +96,8 @@ run-enum-told-2 t c = search needs
 run-enum-told-3 : (t : ℕ) → run-lts.Need-enum-told-3 (calls t) (run-at t) run.Post
 run-enum-told-3 t c = search needs
 
-run-enum-known-count : (t : ℕ) → run-lts.Need-enum-known-count (calls t) (run-at t) run.Post
-run-enum-known-count t c = search needs
+run-enum-known-size : (t : ℕ) → run-lts.Need-enum-known-size (calls t) (run-at t) run.Post
+run-enum-known-size t c = search needs
 
 run-sub-run : (t : ℕ) → run-lts.Need-sub-run (calls t) (run-at t) run.Post
 run-sub-run t c = omega (arith, c .before .before .before .before .before .before .before .before .before .before .if1 .left)
@@ -195,7 +195,7 @@ pub +run-spec : {M : Type 1} → statement M
     (run-enum-told t)
     (run-enum-told-2 t)
     (run-enum-told-3 t)
-    (run-enum-known-count t)
+    (run-enum-known-size t)
     (run-sub-run t)
     (run-add-run t)
     (run-run-requires t)
