@@ -1,0 +1,2 @@
+pub mod InnerKnown
+pub mod InnerStands
