@@ -1,2 +1,3 @@
--- What a call of the player says in one number.
+-- What a call of the player says in one number, and a table from two slices.
 mod PlayingLaws
+mod TableFromLaws

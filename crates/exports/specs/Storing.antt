@@ -1,13 +1,16 @@
 -- What the calls for other languages leave in the memory lent to them: what the call of 01 leaves, and its answer as numbers.
 use mathlib.Core.Path.{_≡_}
+use mathlib.Core.Bool.{cond, _&&_}
 use mathlib.Core.List.{List, [], _∷_}
 use Prim.Native.Nat.{ℕ, _%_}
+use lib.Dec.{eqb}
 use lib.ListN.{length, getD}
 use lib.Seq.{sets}
 use Rattle.common.specs.Answer.{Answer, done, refusedWith, answerBy}
 use Rattle.tree.specs.Parse.{treeOf}
-use Rattle.moves.specs.Moves.{ours}
-use Rattle.lift.specs.Lift.{liftOf}
+use Rattle.move_table.specs.Packing.{empty}
+use Rattle.move_table.specs.declared.LoadedTable.{LoadedTable}
+use Rattle.lift.specs.Lift.{Result}
 use Rattle.lift.specs.Answer.{resultSays, liftBuffer}
 use Rattle.gather.specs.Answer.{gatheringSays, Gathers}
 use Rattle.gather.specs.declared.Gathering.{Gathering}
@@ -28,10 +31,14 @@ abbrev pub withAnswer : Answer → List ℕ → List ℕ
 withAnswer a array =
     sets array 0 (stored32 (answerNumbers a) 0 ∷ stored32 (answerNumbers a) 1 ∷ stored32 (answerNumbers a) 2 ∷ stored32 (answerNumbers a) 3 ∷ [])
 
--- `lift`: what it leaves in the buffer, and its answer
-pub record LiftCall (tree : List ℕ) (position levels : ℕ) (out out′ answer answer′ : List ℕ) : Type 0 where
-  pub leaves : out′ ≡ liftBuffer (liftOf ours (length out) tree position levels) out
-  pub stores : answer′ ≡ withAnswer (resultSays (liftOf ours (length out) tree position levels)) answer
+-- a school's table from two lists; zeros where they have not as many numbers as a table
+abbrev pub tableFrom : List ℕ → List ℕ → LoadedTable
+tableFrom signs lengths = cond (eqb (length signs) 1116 && eqb (length lengths) 36) (record { signs = signs; lengths = lengths }) empty
+
+-- a lift with this result: what it leaves in the buffer, and its answer
+pub record LiftCall (x : Result) (out out′ answer answer′ : List ℕ) : Type 0 where
+  pub leaves : out′ ≡ liftBuffer x out
+  pub stores : answer′ ≡ withAnswer (resultSays x) answer
 
 -- "only the gathered tree may vary"
 pub record GatherCall (tree marks out out′ answer answer′ : List ℕ) : Type 0 where

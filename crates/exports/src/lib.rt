@@ -3,12 +3,17 @@
 ghost use mathlib.Core.Path.{_≡_};
 ghost use mathlib.Core.List.{[], _∷_};
 ghost use Prim.Native.Nat.{_%_};
-ghost use lib.ListN.{set};
+ghost use lib.ListN.{length, set};
 ghost use lib.Seq.{sets};
-ghost use Rattle.exports.specs.Storing.{LiftCall, GatherCall, EncodeCall, PlayCall};
+ghost use Rattle.moves.specs.Moves.{ours};
+ghost use Rattle.lift.specs.Lift.{liftOf};
+ghost use Rattle.lift.specs.Answer.{liftedSays};
+ghost use Rattle.lift.specs.School.{liftWith};
+ghost use Rattle.exports.specs.Storing.{withAnswer, tableFrom, LiftCall, GatherCall, EncodeCall, PlayCall};
 use coder::Coded;
 use gather::Gathering;
 use lift::Lifted;
+use move_table::LoadedTable;
 use player::Played;
 
 // Stores a number of an answer, where the array has that place.
@@ -30,6 +35,20 @@ fn store_all(answer: &mut [u32], number: usize, a: usize, b: usize, c: usize)
     store(answer, 3, c);
 }
 
+// Stores a lift's answer: number, length, position, looks.
+fn store_lift(lifted: Lifted, answer: &mut [u32])
+    ensures { λ r. ⌜ now (answer .exit) ≡ withAnswer (liftedSays lifted) (now (answer .entry)) ⌝ }
+{
+    match lifted {
+        Lifted::Done {
+            nodes,
+            position,
+            looks,
+        } => store_all(answer, 0, nodes, position, looks),
+        Lifted::Refused(number) => store_all(answer, number as usize, 0, 0, 0),
+    }
+}
+
 // Number, length, position, looks.
 #[no_mangle]
 pub extern "C" fn lift_call(
@@ -39,17 +58,49 @@ pub extern "C" fn lift_call(
     out: &mut [u16],
     answer: &mut [u32],
 )
-    ensures { λ r. ⌜ LiftCall (now (tree .entry)) position levels (now (out .entry)) (now (out .exit)) (now (answer .entry)) (now (answer .exit)) ⌝ }
+    ensures { λ r. ⌜ LiftCall (liftOf ours (length (now (out .entry))) (now (tree .entry)) position levels) (now (out .entry)) (now (out .exit)) (now (answer .entry)) (now (answer .exit)) ⌝ }
 {
     let lifted = lift::lift(tree, position, levels, out);
-    match lifted {
-        Lifted::Done {
-            nodes,
-            position: place,
-            looks,
-        } => store_all(answer, 0, nodes, place, looks),
-        Lifted::Refused(number) => store_all(answer, number as usize, 0, 0, 0),
+    store_lift(lifted, answer);
+}
+
+// A school's table, from its words' signs in 36 rows of 31 and their lengths; zeros, which are no table, where there are not so many.
+fn table_from(signs: &[u8], lengths: &[u8]) -> LoadedTable
+    ensures { λ r. ⌜ r ≡ tableFrom (now (signs .entry)) (now (lengths .entry)) ⌝ }
+{
+    let mut rows = [0u8; 1116];
+    let mut counts = [0u8; 36];
+    if (signs.len() == 1116) & (lengths.len() == 36) {
+        text::put_bytes(signs, &mut rows, 0);
+        text::put_bytes(lengths, &mut counts, 0);
+        return LoadedTable {
+            signs: rows,
+            lengths: counts,
+        };
     }
+    LoadedTable {
+        signs: rows,
+        lengths: counts,
+    }
+}
+
+// The same by a school's table.
+#[no_mangle]
+pub extern "C" fn lift_with_call(
+    tree: &[u16],
+    position: usize,
+    levels: usize,
+    out: &mut [u16],
+    signs: &[u8],
+    lengths: &[u8],
+    answer: &mut [u32],
+)
+    ensures { λ r. ⌜ LiftCall (liftWith (tableFrom (now (signs .entry)) (now (lengths .entry))) (length (now (out .entry))) (now (tree .entry)) position levels)
+        (now (out .entry)) (now (out .exit)) (now (answer .entry)) (now (answer .exit)) ⌝ }
+{
+    let table = table_from(signs, lengths);
+    let lifted = lift::lift_with(tree, position, levels, out, table);
+    store_lift(lifted, answer);
 }
 
 // Number, length, the holder's position.

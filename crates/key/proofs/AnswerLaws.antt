@@ -16,14 +16,23 @@ use Rattle.text.specs.Line.{line, lines}
 use Rattle.text.proofs.LineLaws.{lines-append}
 use Rattle.moves.specs.Moves.{MoveTable}
 use Rattle.moves.proofs.MoveLaws.{Right}
+use Rattle.words.specs.Formula.{Formula}
+use Rattle.moves.specs.InnerEntries.{TableIs}
+use Rattle.move_table.specs.Loading as table
+use Rattle.move_table.specs.Loading.{Loaded, loading, schoolTable}
+use Rattle.move_table.specs.Packing.{packed, loadingSays}
+use Rattle.move_table.specs.declared.LoadedTable.{LoadedTable}
+use Rattle.move_table.specs.declared.LoadAnswer.{LoadAnswer}
+use Rattle.move_table.proofs.SchoolLaws.{loaded-table, refused-fault, answer-loaded, answer-refused}
 use Rattle.sheet.specs.Rules.{sheetRules}
 use Rattle.sheet.specs.Reading.{ReadingState, ReadingOutcome, accepted, refused, reading, sheetOf}
 use Rattle.sheet.specs.declared.Sheet.{Sheet}
 use Rattle.sheet.proofs.AcceptedLaws.{accepted-sheet, accepted-short, answered-tree, answered-marks, answered-long, number-accepted, number-refused, Accepted}
+use Rattle.printing.proofs.PrintingLaws.{no-most}
 use Rattle.printing.specs.Key.{NO, Key, refusal, text, liftRows, heldRows, instructionRows}
 use Rattle.lift_lines.specs.Lifting.{treeAfter, liftAnswers}
-use Rattle.key.specs.Call.{keyBytes, KeyOf, keySays, KeyCall}
-use Rattle.key.specs.InnerKeyOf.{heldBy, codeBy, keyIn, keyFor, keyBy, KeyBy}
+use Rattle.key.specs.Call.{keyBytes, KeyOf, KeyWith, keySays, KeyCall}
+use Rattle.key.specs.InnerKeyOf.{heldBy, codeBy, keyIn, keyFor, keyBy, keyForSchool, schoolKeyOf, KeyBy}
 use Rattle.lift_lines.specs.Inner.{liftBytes, IsList, Asked, LiftedAll}
 use Rattle.key.specs.Inner.{Markable, Finished, ReadAs, WroteKey}
 use Rattle.lift_lines.specs.declared.Progress.{Progress}
@@ -160,3 +169,40 @@ pub call-by : (m : MoveTable) (s : List ℕ) {out out′ : List ℕ} {n : ℕ} �
     → Keys (KeyOf m (reading s)) (keyBy m (reading s)) out (Written n) out′
 unfolding keyBy
 call-by m s room W = call-written (KeyOf m (reading s)) (keyFor m (reading s)) (W .answers) room (W .most) (W .wrote)
+
+-- ---- by a school's table
+module _ (t s : List ℕ) {out out′ : List ℕ} {n : ℕ} (room : keyBytes ≤ length out) where
+  -- a key by what loading comes to
+  by-loading : (o : Loaded) → loading t ≡ o → (k : Key) → k ≡ keyForSchool o (reading s) → KeyWith o (reading s) k → n ≤ keyBytes → Wrote out 0 out′ n (text k)
+      → Keys (KeyWith (loading t) (reading s)) (schoolKeyOf t s) out (Written n) out′
+  unfolding schoolKeyOf
+  by-loading o e k q K most w =
+      subst (λ (o : Loaded). Keys (KeyWith o (reading s)) (text (keyForSchool o (reading s))) out (Written n) out′) (sym e)
+      (subst (λ (x : Key). Keys (KeyWith o (reading s)) (text x) out (Written n) out′) q (call-written (KeyWith o (reading s)) k K room most w))
+
+  pub school-refused : (number line : ℕ) → loading t ≡ table.refused number line → n ≤ keyBytes → Wrote out 0 out′ n (text (refusal number line))
+      → Keys (KeyWith (loading t) (reading s)) (schoolKeyOf t s) out (Written n) out′
+  school-refused number line e most w = by-loading (table.refused number line) e (refusal number line) refl refl most w
+
+  pub school-written : (ps : List Formula) → loading t ≡ table.loaded ps → WroteKey (schoolTable ps) (reading s) out out′ n
+      → Keys (KeyWith (loading t) (reading s)) (schoolKeyOf t s) out (Written n) out′
+  unfolding keyBy
+  school-written ps e W = by-loading (table.loaded ps) e (keyFor (schoolTable ps) (reading s)) refl (W .answers) (W .most) (W .wrote)
+
+-- a refusal's line has room
+pub short-line : (t : List ℕ) (r : LoadAnswer) → r ≡ loadingSays (loading t) → (r .number ≡ 0 → ⊥) → length (line NO (r .number ∷ r .line ∷ [])) ≤ keyBytes
+short-line t r e z =
+    let F = refused-fault t (r .number) (r .line) (answer-refused t r e z) in
+    omega (arith, no-most (r .number) (r .line) (omega (arith, F .most)) (omega (arith, F .to)))
+
+-- the table of an answer that is no refusal
+pub record LoadedAs (t : List ℕ) (r : LoadAnswer) : Type 0 where
+  pub entries : List Formula
+  pub is : loading t ≡ table.loaded entries
+  pub holds : TableIs (schoolTable entries) (r .table .signs) (r .table .lengths)
+
+pub loaded-as : (t : List ℕ) (r : LoadAnswer) → r ≡ loadingSays (loading t) → r .number ≡ 0 → LoadedAs t r
+loaded-as t r e z =
+    let L = answer-loaded t r e z in
+    let holds : (x : LoadedTable) → x ≡ packed (L .0) → TableIs (schoolTable (L .0)) (x .signs) (x .lengths) = λ x q. rw q (loaded-table t (L .0) (L .1)) in
+    record { entries = L .0; is = L .1; holds = holds (r .table) (L .2) }

@@ -12,12 +12,14 @@ use Rattle.player.specs.Limits.{byteCount}
 use Rattle.player.specs.Instructions.{Instruction, numbersOf}
 use Rattle.player.specs.Playing.{wrongPairCount, wrongPatch, Plays}
 use Rattle.player.specs.declared.Played.{Played}
-use Rattle.moves.specs.Moves.{MoveTable}
+use Rattle.moves.specs.Moves.{MoveTable, ours}
+use Rattle.words.specs.Formula.{Formula}
+use Rattle.move_table.specs.Loading.{loaded, loading, schoolTable}
 use Rattle.sheet.specs.Reading.{LiftLine, ReadingState, accepted, reading}
 use Rattle.printing.specs.Key.{LiftAnswer, Key, refusal, answers, Held, cannot}
 use Rattle.key.specs.Demand.{Demand3}
 use Rattle.key.proofs.DemandLaws.{some-mark}
-use Rattle.key.specs.Call.{KeyOf}
+use Rattle.key.specs.Call.{KeyOf, KeyWith}
 
 -- a key says `HELD` 19
 abbrev pub SaysCannot : Key → Type 0
@@ -52,3 +54,8 @@ two-tables m n st (answers lifts held is) (answers lifts′ held′ is′) (t, e
       lamps = λ h patch bytes even good long r s after after′ p q.
           D .lit h patch bytes even good long r after p .1 ∙ sym (E .lit (λ c. h (same-verdict E D c)) patch bytes even good long s after′ q .1);
     }
+
+-- of every accepted sheet and accepted table: any key by the table has the lamps and the verdict of any key by ours
+pub same-as-ours : (sheet bytes : List ℕ) (st : ReadingState) (ps : List Formula) → reading sheet ≡ accepted st → loading bytes ≡ loaded ps
+    → (k l : Key) → KeyOf ours (reading sheet) k → KeyWith (loading bytes) (reading sheet) l → Alike k l
+same-as-ours sheet bytes st ps e f k l K L = two-tables ours (schoolTable ps) st k l (rw e at K) (rw (e, f) at L)

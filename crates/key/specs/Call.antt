@@ -10,6 +10,7 @@ use Rattle.tree.specs.Parse.{treeOf}
 use Rattle.tree.specs.Writing.{over}
 use Rattle.moves.specs.Moves.{MoveTable}
 use Rattle.sheet.specs.Reading.{ReadingOutcome, accepted, refused}
+use Rattle.move_table.specs.Loading as table
 use Rattle.printing.specs.Key.{Key, refusal, answers, text}
 use Rattle.key.specs.Demand.{Demand3}
 use Rattle.key.specs.declared.KeyAnswer.{KeyAnswer}
@@ -26,6 +27,11 @@ abbrev pub KeyOf : MoveTable → ReadingOutcome → Key → Type 0
 KeyOf m (refused number line) k = k ≡ refusal number line
 KeyOf m (accepted st) (refusal number line) = ⊥
 KeyOf m (accepted st) (answers lifts held is) = (t : Tree) × (treeOf (st .entries) ≡ some t) × Demand3 m t (st .marks) (st .lifts) lifts held is
+
+-- by a school's table, from what loading it comes to; request 7 of 02: "a refused table prints only `NO` number line"
+abbrev pub KeyWith : table.Loaded → ReadingOutcome → Key → Type 0
+KeyWith (table.refused number line) o k = k ≡ refusal number line
+KeyWith (table.loaded ps) o k = KeyOf (table.schoolTable ps) o k
 
 -- 01's number and value for each answer: a key of so many bytes is written, also one that is a refusal. That the buffer is too short
 -- for some key is no case of 01 and has no number.

@@ -17,6 +17,7 @@ use Rattle.gather.specs.InnerGathered.{gatheredBy, holderOf}
 use Rattle.moves.specs.Moves.{MoveTable, ours}
 use Rattle.sheet.specs.Rules.{Rules, sheetRules}
 use Rattle.sheet.specs.Reading.{ReadingState, ReadingOutcome, accepted, refused, readWith}
+use Rattle.move_table.specs.Loading as table
 use Rattle.printing.specs.Key.{Held, unmarked, heldRun, cannot, Key, refusal, answers, text}
 use Rattle.lift_lines.specs.Lifting.{treeAfter, liftAnswers}
 use Rattle.key.specs.Call.{keyBytes, keySays}
@@ -65,6 +66,14 @@ keyWith rules sheet = keyBy ours (readWith rules sheet)
 
 abbrev pub keyOf : List ℕ → List ℕ
 keyOf sheet = keyWith sheetRules sheet
+
+-- by a school's table
+abbrev pub keyForSchool : table.Loaded → ReadingOutcome → Key
+keyForSchool (table.refused number line) o = refusal number line
+keyForSchool (table.loaded ps) o = keyFor (table.schoolTable ps) o
+
+unfoldable pub schoolKeyOf : (bytes sheet : List ℕ) → List ℕ
+schoolKeyOf bytes sheet = text (keyForSchool (table.loading bytes) (readWith sheetRules sheet))
 
 -- where the buffer is long enough, it is these bytes that are written
 pub record KeyBy (bytes out : List ℕ) (r : KeyAnswer) (out′ : List ℕ) : Type 0 where

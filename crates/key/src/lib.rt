@@ -9,8 +9,9 @@ ghost use Rattle.moves.specs.Moves.{MoveTable, ours};
 ghost use Rattle.moves.specs.InnerEntries.{TableIs, SomeTable};
 ghost use Rattle.sheet.specs.Reading.{ReadingState, accepted, reading};
 ghost use Rattle.printing.specs.Key.{instructionRows};
-ghost use Rattle.key.specs.Call.{keyBytes, KeyOf, KeyCall};
-ghost use Rattle.key.specs.InnerKeyOf.{keyOf, KeyBy};
+ghost use Rattle.move_table.specs.Loading.{loading};
+ghost use Rattle.key.specs.Call.{keyBytes, KeyOf, KeyWith, KeyCall};
+ghost use Rattle.key.specs.InnerKeyOf.{keyOf, schoolKeyOf, KeyBy};
 ghost use Rattle.lift_lines.specs.Inner.{IsList};
 ghost use Rattle.key.specs.Inner.{instructionBytes, MarkedTree, Finishes, ReadAs, WroteKey};
 
@@ -117,5 +118,26 @@ pub fn key(sheet: &[u8], out: &mut [u8]) -> KeyAnswer
     }
     let nothing = [0u8; 0];
     let next = key_by(sheet, out, &nothing, &nothing);
+    KeyAnswer::Written(next)
+}
+
+// The same by a school's table of any bytes: where it is refused, the key is its `NO` line, and the sheet is not read.
+pub fn key_with(sheet: &[u8], table: &[u8], out: &mut [u8]) -> KeyAnswer
+    ensures { λ r. ⌜ KeyCall (KeyWith (loading (now (table .entry))) (reading (now (sheet .entry)))) (now (out .entry)) r (now (out .exit)) ⌝ }
+    ensures by { λ r. ⌜ KeyBy (schoolKeyOf (now (table .entry)) (now (sheet .entry))) (now (out .entry)) r (now (out .exit)) ⌝ }
+{
+    if out.len() < KEY_BYTES {
+        return KeyAnswer::Short;
+    }
+    let load = move_table::load(table);
+    let number = load.number;
+    if number != 0 {
+        let next = text::put_line(b"NO", &[number as usize, load.line], out, 0);
+        return KeyAnswer::Written(next);
+    }
+    let school = load.table;
+    let signs = school.signs;
+    let lengths = school.lengths;
+    let next = key_by(sheet, out, &signs, &lengths);
     KeyAnswer::Written(next)
 }

@@ -3,3 +3,4 @@ pub mod LiftLaws
 pub mod LevelLaws
 pub mod RunLaws
 pub mod WholeLaws
+pub mod SchoolLaws

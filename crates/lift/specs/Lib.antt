@@ -1,3 +1,4 @@
 pub mod Lift
 pub mod Answer
+pub mod School
 pub mod InnerLifts

@@ -11,14 +11,16 @@ ghost use Rattle.moves.specs.InnerEntries.{TableIs, SomeTable};
 ghost use Rattle.step.specs.InnerStanding.{Stands};
 ghost use Rattle.lift.specs.InnerLifts.{Ends, LiftsNode, LiftsPart};
 ghost use Rattle.lift.specs.Lift.{liftOf};
+ghost use Rattle.lift.specs.School.{liftWith};
 ghost use Rattle.lift.specs.Answer.{Lifts};
+use move_table::LoadedTable;
 use step::Node;
 use step::Stepped;
 use step::Stretch;
 use tree::MOST_NODES;
 use tree::UNION;
 
-// 01's numbers of refusal; the last is 02's, request 6.
+// 01's numbers of refusal; the last two are 02's, requests 6 and 7.
 pub const SHORT_BUFFER: u16 = 11;
 
 pub const NOT_A_TREE: u16 = 12;
@@ -32,6 +34,8 @@ pub const NO_STEP: u16 = 15;
 pub const TOO_LONG: u16 = 16;
 
 pub const THROUGH_INTERSECTION: u16 = 27;
+
+pub const NOT_A_TABLE: u16 = 29;
 
 // A lift's answer: how many nodes the new tree has, A's position and the looks; or the refusal's number.
 pub enum Lifted {
@@ -181,4 +185,23 @@ pub fn lift(tree: &[u16], position: usize, levels: usize, out: &mut [u16]) -> Li
 {
     let nothing = [0u8; 0];
     lift_by(tree, position, levels, out, &nothing, &nothing)
+}
+
+// The same by a school's table. One that loading could not have made is refused before everything else.
+pub fn lift_with(
+    tree: &[u16],
+    position: usize,
+    levels: usize,
+    out: &mut [u16],
+    table: LoadedTable,
+) -> Lifted
+    ensures { λ r. ⌜ Lifts (liftWith table (length (now (out .entry))) (now (tree .entry)) position levels) (now (out .entry)) r (now (out .exit)) ⌝ }
+{
+    if move_table::is_loaded(table) {
+        let signs = table.signs;
+        let lengths = table.lengths;
+        lift_by(tree, position, levels, out, &signs, &lengths)
+    } else {
+        Lifted::Refused(NOT_A_TABLE)
+    }
 }

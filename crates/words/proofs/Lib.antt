@@ -5,3 +5,4 @@ pub mod EntryLaws
 pub mod WordLaws
 pub mod AboveLaws
 pub mod ReplaceLaws
+pub mod ReadLaws
