@@ -68,9 +68,9 @@ pub extern "C" fn lift_call(
 fn table_from(signs: &[u8], lengths: &[u8]) -> LoadedTable
     ensures { λ r. ⌜ r ≡ tableFrom (now (signs .entry)) (now (lengths .entry)) ⌝ }
 {
-    let mut rows = [0u8; 1116];
+    let mut rows = [0u8; move_table::SIGNS];
     let mut counts = [0u8; 36];
-    if (signs.len() == 1116) & (lengths.len() == 36) {
+    if (signs.len() == move_table::SIGNS) & (lengths.len() == 36) {
         text::put_bytes(signs, &mut rows, 0);
         text::put_bytes(lengths, &mut counts, 0);
         return LoadedTable {

@@ -165,7 +165,7 @@ fn of_word(word: &[u8]) -> Known
     requires { ⌜ length (now word) ≤ mostSigns ⌝ }
     ensures { λ r. ⌜ r ≡ ifKnown (formulaOf (now (word .entry))) ⌝ }
 {
-    let mut waiting = [NOTHING; moves::MOST_SIGNS];
+    let mut waiting = [NOTHING; words::MOST_SIGNS];
     let mut top: usize = 0;
     let mut i = 0;
     while i < word.len() {

@@ -9,11 +9,13 @@ ghost use Rattle.left_sides.specs.InnerStands.{isFormula};
 ghost use Rattle.move_table.specs.Loading.{front, signsIn, startsWith, refused, loading};
 ghost use Rattle.move_table.specs.Packing.{loadingSays, allZero, entryOfRow, unpacked};
 ghost use Rattle.move_table.specs.InnerLoading.{placeAt, lineSigns, isTable};
+use words::MOST_SIGNS;
 
 // A table's words, a row for each, in the order of the file's lines.
 pub const WORDS: usize = 36;
 
-pub const MOST_SIGNS: usize = 31;
+// Their signs, in rows of 31.
+pub const SIGNS: usize = 1116;
 
 // A table has at most 36 bytes in each of its 36 lines. One byte more is a 37th line, or too long a word before it.
 pub const ENOUGH_BYTES: usize = 1297;
@@ -34,7 +36,7 @@ const BAD_WORD: u16 = 29;
 
 // A loaded table: the words' signs, in rows of 31 of which what a word leaves is 0, and the words' lengths.
 pub struct LoadedTable {
-    pub signs: [u8; 1116],
+    pub signs: [u8; SIGNS],
     pub lengths: [u8; 36],
 }
 
@@ -68,6 +70,7 @@ fn word_length(bytes: &[u8]) -> usize
 }
 
 // A byte as an index's number.
+// A byte as a number.
 fn wide(b: u8) -> usize
     ensures { λ r. ⌜ r ≡ b ⌝ }
 {
@@ -116,16 +119,13 @@ fn line_signs(bytes: &[u8], place: usize) -> usize
 fn refusal(number: u16, line: usize) -> LoadAnswer
     ensures { λ r. ⌜ r ≡ loadingSays (refused number line) ⌝ }
 {
-    let signs: [u8; 1116] = [0; 1116];
-    let lengths: [u8; 36] = [0; 36];
-    let table = LoadedTable {
-        signs: signs,
-        lengths: lengths,
-    };
+    let signs = [0u8; SIGNS];
+    let lengths = [0u8; 36];
+    let table = LoadedTable { signs, lengths };
     LoadAnswer {
-        number: number,
-        line: line,
-        table: table,
+        number,
+        line,
+        table,
     }
 }
 
@@ -133,8 +133,8 @@ fn refusal(number: u16, line: usize) -> LoadAnswer
 pub fn load(bytes: &[u8]) -> LoadAnswer
     ensures { λ r. ⌜ r ≡ loadingSays (loading (now (bytes .entry))) ⌝ }
 {
-    let mut signs: [u8; 1116] = [0; 1116];
-    let mut lengths: [u8; 36] = [0; 36];
+    let mut signs = [0u8; SIGNS];
+    let mut lengths = [0u8; 36];
     let mut at: usize = 0;
     let mut place: usize = 0;
     while place < WORDS {
@@ -156,14 +156,11 @@ pub fn load(bytes: &[u8]) -> LoadAnswer
     if at < bytes.len() {
         return refusal(BAD_LINE, place + 1);
     }
-    let table = LoadedTable {
-        signs: signs,
-        lengths: lengths,
-    };
+    let table = LoadedTable { signs, lengths };
     LoadAnswer {
         number: 0,
         line: 0,
-        table: table,
+        table,
     }
 }
 

@@ -72,9 +72,6 @@ const STATES: [[usize; 4]; 4] = [[1, 5, 1, 2], [6, 3, 6, 8], [1, 5, 1, 2], [7, 4
 // States 1 to 4 replace T alone, the others T with D.
 pub const LAST_ALONE: usize = 4;
 
-// A school's words stand in rows of so many signs.
-pub const MOST_SIGNS: usize = 31;
-
 // The inputs a b c d are 0 to 3, the kinds of T's frame (`tree::Above`); this and more stands for none.
 pub const NO_INPUT: usize = 4;
 

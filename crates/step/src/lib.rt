@@ -14,9 +14,9 @@ ghost use Rattle.moves.proofs.MoveLaws.{Right};
 ghost use Rattle.step.specs.InnerStanding.{StateIs, Standing, Stands};
 ghost use Rattle.step.specs.InnerSteps.{FrameIs, ReplaceIs, Planned, Carries, CarriesSome, PlannedSome, StepIs};
 use moves::LAST_ALONE;
-use moves::MOST_SIGNS;
 use moves::NO_INPUT;
 use tree::Above;
+use words::MOST_SIGNS;
 use words::Replacement;
 
 // A node of a tree's list: its part's entries, from `from` up to, not including, `to`; and its state, 0 where it has none.

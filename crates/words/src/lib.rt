@@ -14,6 +14,9 @@ use tree::DIFFERENCE;
 use tree::MOST_NODES;
 use tree::UNION;
 
+// "at most 31 signs"
+pub const MOST_SIGNS: usize = 31;
+
 // A frame in a word: its kind (`tree::Above`), and the index after its operator.
 struct WordFrame {
     kind: u8,
