@@ -4,3 +4,4 @@ pub mod PackingLaws
 pub mod LoadLaws
 pub mod SchoolLaws
 pub mod Theorems
+pub mod EnoughLaws

@@ -228,23 +228,52 @@ line-front at bytes e =
           ∙ ap (λ (l : List ℕ). w ++ l) (drop-drop n frontBytes bytes ∙ starts-front (lineFeed ∷ []) (drop (frontBytes + n) bytes) last ∙ ap (λ (l : List ℕ). lineFeed ∷ l) (drop-drop 1 (frontBytes + n) bytes)));
     }
 
--- the word of a line that is written
-pub line-word : (at : Place) (p : Formula) (rest : List ℕ) → wordIn (lineOf at (word p) rest) ≡ word p
-line-word at p rest = word-signs p (lineFeed ∷ rest) ∙ ap (λ (l : List ℕ). word p ++ l) (line-feed-signs rest) ∙ (let z : word p ++ [] ≡ word p = simp append-nil in z)
+-- ---- a line that is written
+-- a word as it may stand in a line
+pub record IsWord (w : List ℕ) : Type 0 where
+  pub signs : (rest : List ℕ) → signsIn (w ++ (lineFeed ∷ rest)) ≡ w
+  pub some-signs : 1 ≤ length w
+  pub few-signs : length w ≤ mostSigns
 
--- what follows the word
-after : (at : Place) (p : Formula) (rest : List ℕ) → drop (frontBytes + length (word p)) (lineOf at (word p) rest) ≡ lineFeed ∷ rest
-after at p rest = drop-append-add (front at) (word p ++ (lineFeed ∷ rest)) (length (word p)) ∙ drop-at (word p) (lineFeed ∷ rest) (length (word p)) refl
+-- a formula's is one, and so is that of a line of good form
+pub formula-word : (p : Formula) → length (word p) ≤ mostSigns → IsWord (word p)
+formula-word p h = record {
+  signs = λ rest. word-signs p (lineFeed ∷ rest) ∙ ap (λ (l : List ℕ). word p ++ l) (line-feed-signs rest) ∙ append-nil (word p);
+  some-signs = word-positive p;
+  few-signs = h;
+}
 
-pub line-rest : (at : Place) (p : Formula) (rest : List ℕ) → drop (lineBytes (lineOf at (word p) rest)) (lineOf at (word p) rest) ≡ rest
-line-rest at p rest =
-    ap (λ (w : List ℕ). drop (frontBytes + length w + 1) (lineOf at (word p) rest)) (line-word at p rest)
-    ∙ sym (drop-drop 1 (frontBytes + length (word p)) (lineOf at (word p) rest)) ∙ ap (drop 1) (after at p rest)
+signs-again : (bytes rest : List ℕ) → signsIn (signsIn bytes ++ (lineFeed ∷ rest)) ≡ signsIn bytes
+unfolding signsIn
+signs-again [] rest = refl
+signs-again (b ∷ bytes) rest = go (allowed (signOf b)) refl (signs-again bytes rest)
+  where
+    go : (x : Bool) → allowed (signOf b) ≡ x → signsIn (signsIn bytes ++ (lineFeed ∷ rest)) ≡ signsIn bytes
+        → signsIn (cond x (b ∷ signsIn bytes) [] ++ (lineFeed ∷ rest)) ≡ cond x (b ∷ signsIn bytes) []
+    go true e h = rw e (ap (λ (l : List ℕ). b ∷ l) h)
+    go false e h = refl
 
-pub line-begins : (at : Place) (p : Formula) (rest : List ℕ) → length (word p) ≤ mostSigns → begins at (lineOf at (word p) rest) ≡ true
-line-begins at p rest h =
-    both-true (starts-with (front at) (word p ++ (lineFeed ∷ rest)))
-    (rw (line-word at p rest) (both-true (both-true (le-leb 1 (length (word p)) (word-positive p)) (le-leb (length (word p)) mostSigns h)) (rw (after at p rest) (starts-with (lineFeed ∷ []) rest))))
+pub line-is-word : {at : Place} {bytes : List ℕ} → Line at bytes → IsWord (wordIn bytes)
+line-is-word {at} {bytes} L = record { signs = signs-again (drop frontBytes bytes); some-signs = L .some-signs; few-signs = L .few-signs }
+
+module _ (at : Place) {w : List ℕ} (W : IsWord w) (rest : List ℕ) where
+  -- its word
+  pub line-word : wordIn (lineOf at w rest) ≡ w
+  line-word = W .signs rest
+
+  -- what follows the word
+  after : drop (frontBytes + length w) (lineOf at w rest) ≡ lineFeed ∷ rest
+  after = drop-append-add (front at) (w ++ (lineFeed ∷ rest)) (length w) ∙ drop-at w (lineFeed ∷ rest) (length w) refl
+
+  pub line-rest : drop (lineBytes (lineOf at w rest)) (lineOf at w rest) ≡ rest
+  line-rest =
+      ap (λ (v : List ℕ). drop (frontBytes + length v + 1) (lineOf at w rest)) line-word
+      ∙ sym (drop-drop 1 (frontBytes + length w) (lineOf at w rest)) ∙ ap (drop 1) after
+
+  pub line-begins : begins at (lineOf at w rest) ≡ true
+  line-begins =
+      both-true (starts-with (front at) (w ++ (lineFeed ∷ rest)))
+      (rw line-word (both-true (both-true (le-leb 1 (length w) (W .some-signs)) (le-leb (length w) mostSigns (W .few-signs))) (rw after (starts-with (lineFeed ∷ []) rest))))
 
 -- ---- as the code tests a line
 pub front-room : (at : Place) (bytes : List ℕ) → startsWith (front at) bytes ≡ true → 4 ≤ length bytes

@@ -16,10 +16,10 @@ use Rattle.words.proofs.ReadLaws.{formula-of-word, word-of-formula}
 use Rattle.moves.specs.Moves.{State, Input}
 use Rattle.moves.specs.LeftSides.{standsFor, ifStands, entryFor}
 use Rattle.left_sides.specs.InnerStands.{isFormula}
-use Rattle.move_table.specs.Loading.{Place, frontBytes, wordIn, lineBytes, begins, Loaded, loaded, refused, onto, loadFrom, loading}
+use Rattle.move_table.specs.Loading.{Place, frontBytes, wordIn, lineBytes, begins, Loaded, loaded, refused, onto, withEntry, loadFrom, loading}
 use Rattle.move_table.specs.Packing.{row, rows, lengths, loadingSays}
 use Rattle.move_table.specs.InnerLoading.{placeAt, lineSigns}
-use Rattle.move_table.proofs.LineLaws.{remaining, remaining-more, remaining-none, Counted, line-counted, not-counted}
+use Rattle.move_table.proofs.LineLaws.{remaining, remaining-more, remaining-none, lineOf, IsWord, line-word, line-rest, line-begins, Counted, line-counted, not-counted}
 
 -- ---- an entry
 pub record Entry (x : State) (i : Input) (w : List ℕ) (p : Formula) : Type 0 where
@@ -80,6 +80,13 @@ module _ (at : Place) (later : List Place) (n : ℕ) (bytes : List ℕ) where
       by false e o k = subst P (sym (load-no-line e)) (f e)
       by true e none k = subst P (sym (load-no-entry e k)) (g e k)
       by true e (some p) k = subst P (sym (load-entry p e k)) (h p e k)
+
+-- a line that is written
+pub load-line : (at : Place) (later : List Place) (n : ℕ) {w : List ℕ} → IsWord w → (rest : List ℕ)
+    → loadFrom (at ∷ later) n (lineOf at w rest) ≡ withEntry n (entryFor (at .state) (at .input) w) (loadFrom later (n + 1) rest)
+unfolding loadFrom
+load-line at later n W rest =
+    rw (line-begins at W rest) (ap₂ (λ (v l : List ℕ). withEntry n (entryFor (at .state) (at .input) v) (loadFrom later (n + 1) l)) (line-word at W rest) (line-rest at W rest))
 
 -- ---- no line more
 load-past : (n b : ℕ) (bytes : List ℕ) → loadFrom [] n (b ∷ bytes) ≡ refused 28 n

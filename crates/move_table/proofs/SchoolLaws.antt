@@ -24,8 +24,8 @@ use Rattle.move_table.specs.Packing.{row, rows, lengths, packed, loading
 use Rattle.move_table.specs.InnerLoading.{placeAt, isTable}
 use Rattle.move_table.specs.declared.LoadedTable.{LoadedTable}
 use Rattle.move_table.specs.declared.LoadAnswer.{LoadAnswer}
-use Rattle.move_table.proofs.LineLaws.{both-true, word-positive, numbered, places-numbered, place-of, place-below, lineOf, line-front, line-word, line-rest, line-begins}
-use Rattle.move_table.proofs.LoadLaws.{entry-found, entry-of-word, load-cases, load-entry, row-length}
+use Rattle.move_table.proofs.LineLaws.{both-true, word-positive, numbered, places-numbered, place-of, place-below, lineOf, line-front, formula-word}
+use Rattle.move_table.proofs.LoadLaws.{entry-found, entry-of-word, load-cases, load-line, row-length}
 
 -- ---- the entries of places
 -- a formula may stand at a place, and its word is not too long
@@ -79,12 +79,9 @@ lines-loaded : (f : State → Input → Formula) → ((at : Place) → Stands at
 lines-loaded f h [] n = unfold linesFor loadFrom in refl
 lines-loaded f h (at ∷ later) n =
     let p = f (at .state) (at .input) in
-    let rest = linesFor f later in
-    let bytes = lineOf at (word p) rest in
-    let found : entryFor (at .state) (at .input) (wordIn bytes) ≡ some p = ap (entryFor (at .state) (at .input)) (line-word at p rest) ∙ entry-of-word (at .state) (at .input) p (h at .stands) in
-    let written : linesFor f (at ∷ later) ≡ bytes = (unfold linesFor in refl) in
-    ap (loadFrom (at ∷ later) n) written ∙ load-entry at later n bytes p (line-begins at p rest (h at .short)) found
-    ∙ ap (λ (l : List ℕ). onto p (loadFrom later (n + 1) l)) (line-rest at p rest) ∙ ap (onto p) (lines-loaded f h later (n + 1))
+    let written : linesFor f (at ∷ later) ≡ lineOf at (word p) (linesFor f later) = (unfold linesFor in refl) in
+    ap (loadFrom (at ∷ later) n) written ∙ load-line at later n (formula-word p (h at .short)) (linesFor f later)
+    ∙ rw (entry-of-word (at .state) (at .input) p (h at .stands), lines-loaded f h later (n + 1))
 
 pub text-loaded : (f : State → Input → Formula) → ((at : Place) → Stands at (f (at .state) (at .input))) → loading (linesFor f places) ≡ loaded (listed f places)
 unfolding loading
