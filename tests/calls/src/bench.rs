@@ -4,6 +4,7 @@
 //! bench KEY_PROGRAM MARK_PROGRAM    the reference's own programs are looked for beside this one
 
 mod bench_marks;
+mod bench_schools;
 
 use calls::library;
 use reference::calls::{compact_gather_call, encode_call, gather_call, lift_call, play_call};
@@ -11,7 +12,7 @@ use reference::calls::{GatherAnswer, CODE_BUFFER, TREE_BUFFER};
 use reference::check::table;
 use reference::coder::encode;
 use reference::gather::{gather, rows};
-use reference::lift::lift;
+use reference::lift::{lift, lift_by, Table};
 use reference::player::{LAMP_BYTES, LAST_LAMP, MAXIMUM_PAIRS};
 use reference::random::Random;
 use reference::shape::{difference, gatherable_table, levels_of_nodes, padded, spread_groups, table_tree};
@@ -29,6 +30,7 @@ const GATHER_BAR: f64 = 0.8;
 const MARKS_BAR: f64 = 1.2;
 const LARGE_GROUPS_BAR: f64 = 1.2;
 const INTERSECTION_BAR: f64 = 1.2;
+const SCHOOL_BAR: f64 = 1.2;
 const NAME_WIDTH: usize = 56;
 const KEY_BAR: Duration = Duration::from_millis(20);
 const SHEET_LIFTS: usize = 50;
@@ -68,7 +70,11 @@ fn compare(name: &str, bar: f64, runs: usize, verified: &mut dyn FnMut(), refere
 
 /// Runs a key program once on a sheet; answers the key.
 fn run_program(program: &Path, sheet: &[u8]) -> Vec<u8> {
-    let spawned = Command::new(program).stdin(Stdio::piped()).stdout(Stdio::piped()).spawn();
+    run_command(&mut Command::new(program), sheet)
+}
+
+fn run_command(command: &mut Command, sheet: &[u8]) -> Vec<u8> {
+    let spawned = command.stdin(Stdio::piped()).stdout(Stdio::piped()).spawn();
     let mut child = spawned.expect("the program starts");
     child.stdin.take().expect("its input").write_all(sheet).expect("the sheet is written");
     let output = child.wait_with_output().expect("its output");
@@ -82,13 +88,17 @@ fn sheet(tree: &[u16], lifts: &[(usize, usize)], marks: &[u16]) -> Vec<u8> {
 
 /// So many lifts that are done, one after the other, in a tree that stays within `most` nodes.
 fn done_lifts(tree: &[u16], count: usize, most: usize, random: &mut Random) -> Vec<(usize, usize)> {
+    done_lifts_by(Table::Ours, tree, count, most, random)
+}
+
+fn done_lifts_by(table: Table, tree: &[u16], count: usize, most: usize, random: &mut Random) -> Vec<(usize, usize)> {
     let mut tree = tree.to_vec();
     let mut lifts = Vec::new();
     while lifts.len() < count {
         let position = random.below(tree.len());
         let level = levels_of_nodes(&tree)[position];
         let levels = random.between(1, level.saturating_sub(1).clamp(1, 4));
-        match lift(&tree, position, levels) {
+        match lift_by(table, &tree, position, levels) {
             Ok(lifted) if lifted.tree.len() <= most => {
                 tree = lifted.tree;
                 lifts.push((position, levels));
@@ -285,7 +295,9 @@ fn main() -> ExitCode {
     let random = || Random::new(8);
     println!("{:<NAME_WIDTH$} {:>14} {:>14} {:>7}", "medians", "verified", "reference", "ratio");
     bench_keys(Path::new(key_program), &this.with_file_name("reference_key"), &mut random());
+    bench_schools::bench_key(Path::new(key_program), &this.with_file_name("reference_key"), &mut random());
     bench_lifts(&mut random());
+    bench_schools::bench_lifts(&mut random());
     bench_gather(&mut random());
     bench_code(&mut random());
     bench_large_groups(&mut random());

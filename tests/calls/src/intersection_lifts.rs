@@ -12,14 +12,14 @@ use reference::shape::{difference, intersection, padded, union};
 use reference::tree::{DIFFERENCE, INTERSECTION, MAXIMUM_NODES, UNION};
 
 /// The parent is an `I`, the grandparent each operator on either side.
-const PARENT: [&str; 12] =
+pub const PARENT: [&str; 12] =
     ["AB&C+", "BA&C+", "CAB&+", "CBA&+", "AB&C-", "BA&C-", "CAB&-", "CBA&-", "AB&C&", "BA&C&", "CAB&&", "CBA&&"];
 
 /// The grandparent is an `I`, the parent each other operator on either side.
-const GRANDPARENT: [&str; 8] = ["AB+C&", "BA+C&", "CAB+&", "CBA+&", "AB-C&", "BA-C&", "CAB-&", "CBA-&"];
+pub const GRANDPARENT: [&str; 8] = ["AB+C&", "BA+C&", "CAB+&", "CBA+&", "AB-C&", "BA-C&", "CAB-&", "CBA-&"];
 
 /// States 1 to 4, and what one step makes of them.
-const WITHIN: [(&str, &str); 8] = [
+pub const WITHIN: [(&str, &str); 8] = [
     ("AB+C+", "ABC++"),
     ("BA+C+", "ABC++"),
     ("CAB++", "ABC++"),
@@ -36,7 +36,7 @@ fn with_d(word: &str) -> [String; 6] {
 }
 
 /// An `I` above a word's tree, on either side.
-fn under_intersection(word: &str) -> [String; 2] {
+pub fn under_intersection(word: &str) -> [String; 2] {
     [format!("{word}D&"), format!("D{word}&")]
 }
 

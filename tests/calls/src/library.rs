@@ -1,6 +1,7 @@
 //! The boundary: a slice passes as a pointer and then a length, a number as itself.
 
 use reference::calls::{EncodeAnswer, GatherAnswer, LiftAnswer};
+use reference::table::School;
 
 mod exported {
     extern "C" {
@@ -11,6 +12,21 @@ mod exported {
             levels: usize,
             out: *mut u16,
             out_length: usize,
+            answer: *mut u32,
+            answer_length: usize,
+        );
+        #[cfg(has_lift_with)]
+        pub fn lift_with_call(
+            tree: *const u16,
+            tree_length: usize,
+            position: usize,
+            levels: usize,
+            out: *mut u16,
+            out_length: usize,
+            signs: *const u8,
+            signs_length: usize,
+            lengths: *const u8,
+            lengths_length: usize,
             answer: *mut u32,
             answer_length: usize,
         );
@@ -61,6 +77,51 @@ pub fn lift(tree: &[u16], position: usize, levels: usize, out: &mut [u16]) -> Li
         );
     }
     answer
+}
+
+/// A school's table held by value: its rows of signs, and the words' lengths.
+#[derive(Clone)]
+pub struct Rows {
+    pub signs: Vec<u8>,
+    pub lengths: Vec<u8>,
+}
+
+impl Rows {
+    pub fn new(school: &School) -> Rows {
+        let (signs, lengths) = school.rows();
+        Rows { signs, lengths }
+    }
+}
+
+/// Whether the library has `lift_with_call`.
+pub const HAS_LIFT_WITH: bool = cfg!(has_lift_with);
+
+#[cfg(has_lift_with)]
+pub fn lift_with(rows: &Rows, tree: &[u16], position: usize, levels: usize, out: &mut [u16]) -> LiftAnswer {
+    let mut answer = [UNWRITTEN; 4];
+    unsafe {
+        exported::lift_with_call(
+            tree.as_ptr(),
+            tree.len(),
+            position,
+            levels,
+            out.as_mut_ptr(),
+            out.len(),
+            rows.signs.as_ptr(),
+            rows.signs.len(),
+            rows.lengths.as_ptr(),
+            rows.lengths.len(),
+            answer.as_mut_ptr(),
+            answer.len(),
+        );
+    }
+    answer
+}
+
+/// A library without the call writes nothing.
+#[cfg(not(has_lift_with))]
+pub fn lift_with(_: &Rows, _: &[u16], _: usize, _: usize, _: &mut [u16]) -> LiftAnswer {
+    [UNWRITTEN; 4]
 }
 
 pub fn gather(tree: &[u16], marks: &[u16], out: &mut [u16]) -> GatherAnswer {

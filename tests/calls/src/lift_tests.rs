@@ -15,6 +15,7 @@ use reference::report::Report;
 use reference::shape::{join, levels_of_nodes, Operators, Shape, GROUP_EDGES};
 use reference::tree::{groups, Nodes, Operator, DIFFERENCE, INTERSECTION, LAST_GROUP, MAXIMUM_NODES, UNION};
 
+#[derive(Clone)]
 pub struct Input {
     pub tree: Vec<u16>,
     pub position: usize,
@@ -43,12 +44,15 @@ fn meaning(tree: &[u16], groups: &[u16]) -> [u64; 4] {
     table(&tree, &[1, 2, 3, 4, 5, 6, 7, 8])
 }
 
+/// A lift of the library: the tree, the position, the levels and the buffer.
+pub type Call<'a> = &'a dyn Fn(&[u16], usize, usize, &mut [u16]) -> LiftAnswer;
+
 /// The tree and A's position after as many lifts of one level, each of which sees A's state in the tree that it is given.
-fn single_lifts(input: &Input) -> Result<(Vec<u16>, usize), String> {
+fn single_lifts(input: &Input, call: Call) -> Result<(Vec<u16>, usize), String> {
     let (mut tree, mut at) = (input.tree.clone(), input.position);
     for level in 1..=input.levels {
         let mut out = filled(TREE_BUFFER);
-        let [number, length, position, _] = library::lift(&tree, at, 1, &mut out).map(|number| number as usize);
+        let [number, length, position, _] = call(&tree, at, 1, &mut out).map(|number| number as usize);
         ensure(number == 0, &format!("single lift {level} is refused with {number}"))?;
         (tree, at) = (out[..length].to_vec(), position);
     }
@@ -57,7 +61,7 @@ fn single_lifts(input: &Input) -> Result<(Vec<u16>, usize), String> {
 
 /// What must hold of every done lift, whatever its steps: looks as many as levels, A whole and so many levels higher,
 /// an equivalent tree, and the same tree as by single lifts.
-fn done_lift(input: &Input, answer: &LiftAnswer, out: &[u16]) -> Result<(), String> {
+pub fn done_lift(input: &Input, answer: &LiftAnswer, out: &[u16], call: Call) -> Result<(), String> {
     let [_, length, position, looks] = answer.map(|number| number as usize);
     let lifted = &out[..length];
     let (given_part, level) = part(&input.tree, input.position);
@@ -65,7 +69,7 @@ fn done_lift(input: &Input, answer: &LiftAnswer, out: &[u16]) -> Result<(), Stri
     same("A and its level", &part(lifted, position), &(given_part, level - input.levels))?;
     let groups = groups(&input.tree);
     same("table", &meaning(lifted, &groups), &meaning(&input.tree, &groups))?;
-    let (tree, at) = single_lifts(input)?;
+    let (tree, at) = single_lifts(input, call)?;
     same("nodes and position by single lifts", &(tree.len(), at), &(length, position))?;
     same_buffer(&tree, lifted)
 }
@@ -77,7 +81,7 @@ pub fn compare(name: &str, input: &Input, report: &mut Report) -> u32 {
     let (answer, out) = input.call();
     let mut result = same("answer", &answer, &expected).and_then(|()| same_buffer(&out, &expected_out));
     if answer[0] == 0 {
-        result = result.and_then(|()| done_lift(input, &answer, &out));
+        result = result.and_then(|()| done_lift(input, &answer, &out, &library::lift));
     }
     let rest = format!("position {} levels {} buffer {}\n", input.position, input.levels, input.buffer);
     let text = numbers("tree", &input.tree) + &rest;
@@ -89,7 +93,7 @@ pub fn compare(name: &str, input: &Input, report: &mut Report) -> u32 {
     answer[0]
 }
 
-fn random_lift(random: &mut Random) -> Input {
+pub fn random_lift(random: &mut Random) -> Input {
     let tree = list(8, random);
     let none = random.pick(&[tree.len(), 8190, 8191, usize::MAX]);
     let position = if random.one_in(12) { none } else { random.below(tree.len().max(1)) };

@@ -10,6 +10,8 @@ mod inputs;
 mod intersection_lifts;
 mod lift_tests;
 mod play_tests;
+mod school_lifts;
+mod school_tables;
 
 use inputs::{with_intersection, with_last_group, with_number_after};
 use reference::report::Report;
@@ -18,8 +20,9 @@ use std::process::ExitCode;
 
 /// How often each number must have been answered, also about the last group.
 fn least_counts() -> Vec<(String, usize)> {
-    let numbers: [(&str, &[usize]); 4] = [
+    let numbers: [(&str, &[usize]); 5] = [
         ("lift", &[0, 11, 12, 13, 14, 15, 16, 27]),
+        ("lift with", &[0, 11, 12, 13, 14, 15, 16, 27, 29]),
         ("gather", &[0, 11, 12, 17, 18, 19]),
         ("encode", &[0, 12, 20]),
         ("play", &[0, 21, 22, 23, 24, 25]),
@@ -27,10 +30,12 @@ fn least_counts() -> Vec<(String, usize)> {
     let counts = |(call, numbers): (&str, &[usize])| -> Vec<(String, usize)> {
         numbers.iter().map(|number| (format!("{call}: answered {number}"), 30)).collect()
     };
-    let lists = [("lift", 12), ("gather", 12), ("encode", 12), ("play, code", 23), ("play, patch", 25)];
+    let lists =
+        [("lift", 12), ("lift with", 12), ("gather", 12), ("encode", 12), ("play, code", 23), ("play, patch", 25)];
     let last_group = lists.map(|(list, number)| [(with_last_group(list), 100), (with_number_after(list, number), 10)]);
-    let calls: [(&str, &[u32]); 3] =
-        [("lift", &[0, 12, 13, 14, 15, 16, 27]), ("gather", &[0, 12, 17, 18, 19]), ("encode", &[0, 12])];
+    let lifted: &[u32] = &[0, 12, 13, 14, 15, 16, 27];
+    let calls: [(&str, &[u32]); 4] =
+        [("lift", lifted), ("lift with", lifted), ("gather", &[0, 12, 17, 18, 19]), ("encode", &[0, 12])];
     let about_intersection =
         calls.into_iter().flat_map(|(call, numbers)| numbers.iter().map(move |&number| (call, number)));
     let about_intersection = about_intersection.map(|(call, number)| (with_intersection(call, number), 20));
@@ -44,9 +49,11 @@ fn main() -> ExitCode {
         return ExitCode::FAILURE;
     };
     let mut report = Report::new(PathBuf::from(target));
-    let tests: [(&str, fn(&mut Report)); 6] = [
+    let tests: [(&str, fn(&mut Report)); 8] = [
         ("lift", lift_tests::run),
         ("lift about I", intersection_lifts::run),
+        ("lift by a school's table", school_lifts::run),
+        ("a school's table by value", school_tables::run),
         ("gather", gather_tests::run),
         ("compact", compact_tests::run),
         ("encode", encode_tests::run),
@@ -57,6 +64,8 @@ fn main() -> ExitCode {
         println!("calls: {name} tried");
     }
     report.categories(&least_counts());
+    report.categories_met(&school_lifts::least_counts());
+    report.categories_met(&school_tables::least_counts());
     if report.finish("calls") {
         ExitCode::SUCCESS
     } else {

@@ -1,5 +1,6 @@
 //! Sheets whose keys were worked out by hand from 01.
 
+use crate::tables::file::TableFile;
 use reference::tree::LAST_GROUP;
 
 /// What a sheet's key must be.
@@ -13,10 +14,20 @@ pub enum Expected {
     Reference,
 }
 
+#[derive(Clone)]
 pub struct Case {
     pub name: String,
+    /// The school's table, if the key program is given one.
+    pub table: TableFile,
     pub bytes: Vec<u8>,
     pub expected: Expected,
+}
+
+impl Case {
+    /// A sheet without a table.
+    pub fn new(name: String, bytes: Vec<u8>, expected: Expected) -> Case {
+        Case { name, table: TableFile::NotNamed, bytes, expected }
+    }
 }
 
 /// Lines end in `/` and fields are parted by a space, as 01 writes its example; `_` is a space.
@@ -268,11 +279,8 @@ pub fn with_large_groups(lines: &str) -> String {
 }
 
 fn case(sheet: &str, key: &str) -> Case {
-    Case {
-        name: format!("case {sheet:?}"),
-        bytes: text(sheet),
-        expected: if key.is_empty() { Expected::Gathered } else { Expected::Key(text(key)) },
-    }
+    let expected = if key.is_empty() { Expected::Gathered } else { Expected::Key(text(key)) };
+    Case::new(format!("case {sheet:?}"), text(sheet), expected)
 }
 
 pub fn cases() -> Vec<Case> {
@@ -280,11 +288,8 @@ pub fn cases() -> Vec<Case> {
     let mut cases: Vec<Case> = REFUSED.iter().chain(accepted()).map(|(sheet, key)| case(sheet, key)).collect();
     cases.extend(accepted().map(|(sheet, key)| case(&with_large_groups(sheet), &with_large_groups(key))));
     for byte in [b'/', 127, 128, 255] {
-        cases.push(Case {
-            name: format!("case of byte {byte}"),
-            bytes: [b"G\t1\n", &[byte][..], b"\nE\n"].concat(),
-            expected: Expected::Key(text("NO 2 2/")),
-        });
+        let bytes = [b"G\t1\n", &[byte][..], b"\nE\n"].concat();
+        cases.push(Case::new(format!("case of byte {byte}"), bytes, Expected::Key(text("NO 2 2/"))));
     }
     cases
 }

@@ -1,4 +1,4 @@
-//! Damage to a sheet's bytes.
+//! Damage to a sheet's bytes or a table's.
 
 use reference::random::Random;
 use reference::shape::edge_number;
@@ -13,15 +13,30 @@ fn flip_bit(mut bytes: Vec<u8>, random: &mut Random) -> Vec<u8> {
     bytes
 }
 
+const SHEET_BYTES: &[u8] = b"GUDILKE\t\n0123456789 \r\0\xff";
+const TABLE_BYTES: &[u8] = b"ABCDABCD++--abcd\t\n0123456789 \r\0\xff";
+
 fn replace_byte(mut bytes: Vec<u8>, random: &mut Random) -> Vec<u8> {
     let at = random.below(bytes.len());
-    bytes[at] = random.pick(b"GUDILKE\t\n0123456789 \r\0\xff");
+    bytes[at] = random.pick(SHEET_BYTES);
+    bytes
+}
+
+fn replace_table_byte(mut bytes: Vec<u8>, random: &mut Random) -> Vec<u8> {
+    let at = random.below(bytes.len());
+    bytes[at] = random.pick(TABLE_BYTES);
+    bytes
+}
+
+fn insert_table_byte(mut bytes: Vec<u8>, random: &mut Random) -> Vec<u8> {
+    let at = random.below(bytes.len() + 1);
+    bytes.insert(at, random.pick(TABLE_BYTES));
     bytes
 }
 
 fn insert_byte(mut bytes: Vec<u8>, random: &mut Random) -> Vec<u8> {
     let at = random.below(bytes.len() + 1);
-    bytes.insert(at, random.pick(b"GUDILKE\t\n0123456789 \r\0\xff"));
+    bytes.insert(at, random.pick(SHEET_BYTES));
     bytes
 }
 
@@ -99,12 +114,35 @@ const DAMAGES: [Damage; 10] = [
     change_group,
 ];
 
-/// One to three kinds of damage.
-pub fn damaged(mut bytes: Vec<u8>, random: &mut Random) -> Vec<u8> {
+/// Damage to a table's bytes: mostly to one byte.
+const TABLE_DAMAGES: [Damage; 10] = [
+    flip_bit,
+    flip_bit,
+    replace_table_byte,
+    replace_table_byte,
+    insert_table_byte,
+    remove_byte,
+    truncate,
+    drop_line,
+    repeat_line,
+    swap_lines,
+];
+
+fn damaged_by(damages: &[Damage], mut bytes: Vec<u8>, random: &mut Random) -> Vec<u8> {
     for _ in 0..random.pick(&[1, 1, 1, 2, 3]) {
         if !bytes.is_empty() {
-            bytes = random.pick(&DAMAGES)(bytes, random);
+            bytes = random.pick(damages)(bytes, random);
         }
     }
     bytes
+}
+
+/// One to three kinds of damage to a sheet.
+pub fn damaged(bytes: Vec<u8>, random: &mut Random) -> Vec<u8> {
+    damaged_by(&DAMAGES, bytes, random)
+}
+
+/// One to three kinds of damage to a table.
+pub fn damaged_table(bytes: Vec<u8>, random: &mut Random) -> Vec<u8> {
+    damaged_by(&TABLE_DAMAGES, bytes, random)
 }

@@ -3,7 +3,7 @@
 use crate::damage::damaged;
 use crate::growth::grown_to_limit;
 use reference::gather::{gather, holder};
-use reference::lift::lift;
+use reference::lift::{lift_by, Table};
 use reference::random::Random;
 use reference::refusal::NOT_GATHERABLE;
 use reference::shape::{difference, gatherable_table, intersection, join, levels_of_nodes, some_groups};
@@ -53,12 +53,12 @@ pub fn random_sheet(number: u64, seed: u64) -> (&'static str, Vec<u8>) {
     unreachable!("the choice is below the sum of the shares")
 }
 
-fn unmarked(tree: Vec<u16>) -> Sheet {
+pub fn unmarked(tree: Vec<u16>) -> Sheet {
     Sheet { tree, ..Sheet::default() }
 }
 
 /// Marks some of the tree's groups, in any order.
-fn mark_some(sheet: &mut Sheet, random: &mut Random) {
+pub fn mark_some(sheet: &mut Sheet, random: &mut Random) {
     sheet.marks = groups(&sheet.tree);
     random.shuffle(&mut sheet.marks);
     let count = random.between(1, sheet.marks.len());
@@ -83,7 +83,7 @@ pub fn plain(random: &mut Random) -> Sheet {
 }
 
 /// A lift that is likely to be done; now and then any position and levels.
-fn some_lift(tree: &[u16], random: &mut Random) -> (usize, usize) {
+pub fn some_lift(tree: &[u16], random: &mut Random) -> (usize, usize) {
     if random.one_in(12) {
         return (random.between(0, 8190), random.between(1, 99));
     }
@@ -116,24 +116,35 @@ fn lift_by_two(tree: &[u16], random: &mut Random) -> (usize, usize) {
 }
 
 /// How a lift's position and levels are chosen.
-type Choice = fn(&[u16], &mut Random) -> (usize, usize);
+pub type Choice = fn(&[u16], &mut Random) -> (usize, usize);
 
-/// Adds lifts, each chosen by the tree that the ones before it leave; `tree` is what the sheet's own leave.
-fn add_lifts(sheet: &mut Sheet, mut tree: Vec<u16>, count: usize, choice: Choice, random: &mut Random) {
+/// Adds lifts by a table, each chosen by the tree that the ones before it leave; `tree` is what the sheet's own leave.
+pub fn add_lifts(
+    sheet: &mut Sheet,
+    mut tree: Vec<u16>,
+    count: usize,
+    choice: Choice,
+    table: Table,
+    random: &mut Random,
+) {
     for _ in 0..count {
         let (position, levels) = choice(&tree, random);
         sheet.lifts.push((position, levels));
-        if let Ok(lifted) = lift(&tree, position, levels) {
+        if let Ok(lifted) = lift_by(table, &tree, position, levels) {
             tree = lifted.tree;
         }
     }
 }
 
 pub fn lifted(random: &mut Random) -> Sheet {
+    lifted_by(Table::Ours, random)
+}
+
+pub fn lifted_by(table: Table, random: &mut Random) -> Sheet {
     let mut sheet = plain(random);
     let count = random.between(1, 8);
     let tree = sheet.tree.clone();
-    add_lifts(&mut sheet, tree, count, some_lift, random);
+    add_lifts(&mut sheet, tree, count, some_lift, table, random);
     sheet
 }
 
@@ -146,35 +157,47 @@ fn with_some_intersections(shape: Shape, random: &mut Random) -> Shape {
 }
 
 pub fn lifted_near_root(random: &mut Random) -> Sheet {
+    lifted_near_root_by(Table::Ours, random)
+}
+
+pub fn lifted_near_root_by(table: Table, random: &mut Random) -> Sheet {
     let count = random.between(1, 8);
     let groups = some_groups(count, random);
     let leaves = random.between(4, 16);
     let tree = with_some_intersections(Shape::mixed(), random).tree(leaves, &groups, random);
     let mut sheet = unmarked(tree.clone());
-    add_lifts(&mut sheet, tree, 8, lift_near_root, random);
+    add_lifts(&mut sheet, tree, 8, lift_near_root, table, random);
     sheet
 }
 
-/// Lifts near the root in a tree in which two or three of eight operators are an `I`.
 pub fn lifted_about_intersections(random: &mut Random) -> Sheet {
+    lifted_about_intersections_by(Table::Ours, random)
+}
+
+/// Lifts near the root in a tree in which two or three of eight operators are an `I`.
+pub fn lifted_about_intersections_by(table: Table, random: &mut Random) -> Sheet {
     let count = random.between(1, 8);
     let groups = some_groups(count, random);
     let leaves = random.between(5, 24);
     let intersections = random.between(2, 3);
     let tree = Shape::mixed().with_intersections(intersections).tree(leaves, &groups, random);
     let mut sheet = unmarked(tree.clone());
-    add_lifts(&mut sheet, tree, 16, lift_by_two, random);
+    add_lifts(&mut sheet, tree, 16, lift_by_two, table, random);
     sheet
 }
 
 pub fn nested(random: &mut Random) -> Sheet {
+    nested_by(Table::Ours, random)
+}
+
+pub fn nested_by(table: Table, random: &mut Random) -> Sheet {
     let count = random.between(2, 8);
     let groups = some_groups(count, random);
     let leaves = random.between(4, 60);
     let tree = with_some_intersections(Shape::nested_differences(), random).tree(leaves, &groups, random);
     let mut sheet = unmarked(tree.clone());
     let count = random.between(1, 6);
-    add_lifts(&mut sheet, tree, count, some_lift, random);
+    add_lifts(&mut sheet, tree, count, some_lift, table, random);
     sheet
 }
 
@@ -212,7 +235,11 @@ pub fn few_groups(random: &mut Random) -> Sheet {
 }
 
 pub fn lifted_and_marked(random: &mut Random) -> Sheet {
-    let mut sheet = if random.one_in(2) { lifted(random) } else { nested(random) };
+    lifted_and_marked_by(Table::Ours, random)
+}
+
+pub fn lifted_and_marked_by(table: Table, random: &mut Random) -> Sheet {
+    let mut sheet = if random.one_in(2) { lifted_by(table, random) } else { nested_by(table, random) };
     mark_some(&mut sheet, random);
     sheet
 }
@@ -317,7 +344,7 @@ pub fn gatherable(random: &mut Random) -> Sheet {
 pub fn grown(random: &mut Random) -> Sheet {
     let (mut sheet, tree) = grown_to_limit(random);
     let count = random.between(0, 3);
-    add_lifts(&mut sheet, tree, count, some_lift, random);
+    add_lifts(&mut sheet, tree, count, some_lift, Table::Ours, random);
     if random.one_in(3) {
         mark_some(&mut sheet, random);
     }

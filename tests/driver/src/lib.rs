@@ -9,5 +9,6 @@ pub mod marks;
 pub mod program;
 pub mod self_tests;
 pub mod sheets;
+pub mod tables;
 pub mod vectors;
 pub mod workers;

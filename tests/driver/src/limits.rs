@@ -11,7 +11,7 @@ use reference::tree::LAST_GROUP;
 pub const LONG_KEYS: usize = 8;
 
 fn case(name: &str, bytes: Vec<u8>, expected: Expected) -> Case {
-    Case { name: format!("limit: {name}"), bytes, expected }
+    Case::new(format!("limit: {name}"), bytes, expected)
 }
 
 fn refused(name: &str, bytes: Vec<u8>, number: usize, line: usize) -> Case {

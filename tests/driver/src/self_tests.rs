@@ -4,9 +4,12 @@ use crate::cases::{Case, Expected};
 use reference::check::ensure;
 use reference::closure::{gathered_sizes, tree_sizes, Sizes, UNREACHED};
 use reference::gather::columns_agree;
-use reference::key::key_bytes;
+use reference::key::{key_bytes, school_key_bytes};
+use reference::lift::{lift, lift_by, Table};
 use reference::report::Report;
+use reference::table::{state_and_input, tree_of, with_d, School, LINES, T_WORDS};
 use reference::tree::{THREE_OPERATORS, TWO_OPERATORS};
+use reference::words::{ours, sign_of};
 
 const FEW: usize = 3;
 
@@ -66,14 +69,43 @@ fn functions_of_trees(groups: usize) -> Result<(), String> {
     }
 }
 
+/// The words of our own table's file, line by line, are what our own steps make of T with D, in each order of a
+/// union's operands: in states 5 to 9 an entry, in states 1 to 4 the entry for T with D joined on.
+pub fn our_table(bytes: &[u8], report: &mut Report) {
+    report.test("our own table as a file", ensure(School::load(bytes) == Ok(ours()), "other words, or refused"));
+    let leaves = [1, 2, 3, 4].map(|leaf| vec![leaf]);
+    let school = ours();
+    for (state, input) in (0..LINES).map(state_and_input) {
+        for t in T_WORDS[state - 1] {
+            let (tree, position) = tree_of(with_d(t, input).as_bytes(), &leaves);
+            let same = lift(&tree, position, 1) == lift_by(Table::School(&school), &tree, position, 1);
+            report.test(&format!("our own word, state {state}, input {input}"), ensure(same, "another tree"));
+            let joined_on = with_d(entry_alone(t).as_str(), input);
+            let word = String::from_utf8_lossy(school.word(state, input));
+            let same = state > 4 || word == joined_on;
+            report.test(&format!("D joined on, state {state}, input {input}"), ensure(same, &joined_on));
+        }
+    }
+}
+
+/// What a step at level 2 makes of T in states 1 to 4, nothing in others.
+fn entry_alone(t: &str) -> String {
+    let (tree, position) = tree_of(t.as_bytes(), &[1, 2, 3, 4].map(|leaf| vec![leaf]));
+    let lifted = lift(&tree, position, 1).map(|lifted| lifted.tree).unwrap_or_default();
+    lifted.into_iter().map(|number| char::from(sign_of(number))).collect()
+}
+
 /// Every choice of one or more of so many groups.
 fn choices(groups: usize) -> impl Iterator<Item = Vec<usize>> {
     (1..1_usize << groups).map(move |choice| (0..groups).filter(|group| choice >> group & 1 == 1).collect())
 }
 
-pub fn run(cases: &[Case], report: &mut Report) {
-    for case in cases {
-        let key = key_bytes(&case.bytes);
+pub fn run(cases: &[(Option<String>, Case)], report: &mut Report) {
+    for (_, case) in cases {
+        let key = match case.table.contents() {
+            None => key_bytes(&case.bytes),
+            Some(table) => school_key_bytes(table, || case.bytes.clone()),
+        };
         let same = !matches!(&case.expected, Expected::Key(expected) if *expected != key);
         let result = ensure(same, "the reference prints another key");
         report.saved_test(&format!("reference, {}", case.name), result, &[("sheet", &case.bytes), ("key", &key)]);

@@ -1,24 +1,31 @@
-//! Runs a key program on many sheets and checks each key.
+//! Runs a key program on many sheets, with schools' tables and without, and checks each key.
 
 use crate::cases::{Case, Expected};
 use crate::generate::random_sheet;
-use crate::program::Watched;
-use crate::workers::share_out;
+use crate::tables::file::TableFile;
+use crate::tables::{kinds, least};
+use crate::workers::{share_out, Worker, WORKERS};
 use reference::check::ensure;
+use reference::key::{Held, Key};
 use reference::key_check::sheet_key;
 use reference::key_traits::{Marks, Trait};
 use reference::random::Random;
 use reference::report::Report;
-use std::path::Path;
+use reference::words::ours;
+use std::path::{Path, PathBuf};
 use std::process::Command;
 use std::sync::Mutex;
 
 /// Where the keys come from.
 pub struct Subject<'a> {
     pub program: &'a Path,
-    /// The fixed sheets, before `random_sheets` of the seed.
-    pub cases: &'a [Case],
+    /// Each worker writes its tables into a folder of its own in here, one over the other.
+    pub folder: &'a Path,
+    /// The fixed sheets with the categories that they belong to, before `random_sheets` and `table_sheets` of the seed.
+    pub cases: &'a [(Option<String>, Case)],
     pub random_sheets: usize,
+    /// Random sheets with a school's table.
+    pub table_sheets: usize,
     pub seed: u64,
 }
 
@@ -31,38 +38,87 @@ fn meets(expected: &Expected, key: &[u8], traits: &[Trait]) -> Result<(), String
     ensure(met, "the key is not the one given for this sheet")
 }
 
+/// Whether a key says 19.
+fn says_19(key: &[u8]) -> Result<bool, String> {
+    let key = Key::parse(key).ok_or("the bytes are not those of a key")?;
+    Ok(matches!(key.held, Some(Held::Cannot(_))))
+}
+
 impl Subject<'_> {
-    /// The kind, name, bytes and expected key of the sheet with this number.
-    fn sheet(&self, number: usize) -> (String, String, Vec<u8>, Expected) {
-        if let Some(case) = self.cases.get(number) {
-            return ("fixed".to_string(), case.name.clone(), case.bytes.clone(), case.expected.clone());
+    /// The sheet with this number, and the category of its kind.
+    fn sheet(&self, number: usize) -> (String, Case) {
+        if let Some((category, case)) = self.cases.get(number) {
+            return (category.clone().unwrap_or_else(|| "sheets: fixed".to_string()), case.clone());
         }
         let random_number = number - self.cases.len();
-        let (kind, bytes) = random_sheet(random_number as u64, self.seed);
-        (kind.to_string(), format!("sheet {random_number} ({kind})"), bytes, Expected::Reference)
-    }
-
-    fn try_sheet(&self, number: usize, watched: &Watched, report: &Mutex<Report>) {
-        let (kind, name, bytes, expected) = self.sheet(number);
-        let printed = watched.run(&mut Command::new(self.program), &bytes);
-        let key = printed.clone().unwrap_or_default();
-        let mut random = Random::new(self.seed ^ number as u64);
-        let result = printed.and_then(|key| {
-            let traits = sheet_key(&bytes, &key, &mut random)?;
-            meets(&expected, &key, &traits).map(|()| traits)
-        });
-        let mut report = report.lock().unwrap();
-        report.count(format!("sheets: {kind}"));
-        for seen in result.iter().flatten() {
-            report.count(format!("{seen:?}"));
+        if random_number < self.random_sheets {
+            let (kind, bytes) = random_sheet(random_number as u64, self.seed);
+            let name = format!("sheet {random_number} ({kind})");
+            return (format!("sheets: {kind}"), Case::new(name, bytes, Expected::Reference));
         }
-        report.saved_test(&name, result.map(|_| ()), &[("sheet", &bytes), ("key", &key)]);
+        let table_number = random_number - self.random_sheets;
+        let (kind, (table, bytes)) = kinds::random_pair(table_number as u64, self.seed);
+        let name = format!("sheet {table_number} with a table ({kind})");
+        let case = Case::new(name, bytes, Expected::Reference);
+        (least::kind_category(kind), Case { table: TableFile::Bytes(table), ..case })
     }
 
-    pub fn try_all(&self, report: Report) -> Report {
+    fn worker_folder(&self, number: usize) -> PathBuf {
+        self.folder.join(format!("worker-{number}"))
+    }
+
+    fn printed(&self, case: &Case, worker: &Worker) -> Result<Vec<u8>, String> {
+        let folder = self.worker_folder(worker.number);
+        let argument = case.table.argument(&folder).map_err(|error| format!("{}: {error}", folder.display()))?;
+        worker.watched.run(Command::new(self.program).args(argument), &case.bytes)
+    }
+
+    /// A key by a school's table beside the program's key by our own: the same verdict, and for our own words the same
+    /// key if nothing is refused for an `I`.
+    fn beside_own_table(&self, case: &Case, key: &[u8], traits: &[Trait], worker: &Worker) -> Result<(), String> {
+        let is_marked = |seen: &Trait| matches!(seen, Trait::Marked(marks) if *marks != Marks::None);
+        let is_ours = case.table == TableFile::Bytes(ours().print());
+        let same_due = is_ours && traits.contains(&Trait::SchoolWithoutIntersection);
+        if case.table == TableFile::NotNamed || !(same_due || traits.iter().any(is_marked)) {
+            return Ok(());
+        }
+        let own = worker.watched.run(&mut Command::new(self.program), &case.bytes)?;
+        ensure(says_19(key)? == says_19(&own)?, "HELD 19 with one table and not with the other")?;
+        ensure(!same_due || own == key, "another key by our own words as a school's")
+    }
+
+    fn check(&self, case: &Case, key: &[u8], seed: u64, worker: &Worker) -> Result<Vec<Trait>, String> {
+        let traits = sheet_key(case.table.contents(), &case.bytes, key, &mut Random::new(seed))?;
+        self.beside_own_table(case, key, &traits, worker)?;
+        meets(&case.expected, key, &traits).map(|()| traits)
+    }
+
+    fn try_sheet(&self, number: usize, worker: &Worker, report: &Mutex<Report>) {
+        let (category, case) = self.sheet(number);
+        let printed = self.printed(&case, worker);
+        let key = printed.clone().unwrap_or_default();
+        let result = printed.and_then(|key| self.check(&case, &key, self.seed ^ number as u64, worker));
+        let mut report = report.lock().unwrap();
+        report.count(category);
+        for seen in result.iter().flatten() {
+            let with_table = case.table != TableFile::NotNamed;
+            report.count(if with_table { least::category(seen) } else { format!("{seen:?}") });
+        }
+        let mut files = vec![("sheet", &case.bytes[..]), ("key", &key)];
+        files.extend(case.table.contents().map(|table| ("table", table)));
+        report.saved_test(&case.name, result.map(|_| ()), &files);
+    }
+
+    pub fn try_all(&self, report: Report) -> std::io::Result<Report> {
+        for number in 0..WORKERS {
+            std::fs::create_dir_all(self.worker_folder(number))?;
+        }
         let report = Mutex::new(report);
-        let count = self.cases.len() + self.random_sheets;
-        share_out(count, "sheets", |number, worker| self.try_sheet(number, &worker.watched, &report));
-        report.into_inner().unwrap()
+        let count = self.cases.len() + self.random_sheets + self.table_sheets;
+        share_out(count, "sheets", |number, worker| self.try_sheet(number, worker, &report));
+        for number in 0..WORKERS {
+            std::fs::remove_dir_all(self.worker_folder(number))?;
+        }
+        Ok(report.into_inner().unwrap())
     }
 }

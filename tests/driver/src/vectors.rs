@@ -2,6 +2,7 @@
 
 use crate::cases::{Case, Expected};
 use crate::marks::pair::{File, Pair};
+use crate::tables::file::TableFile;
 use std::fs::read;
 use std::io::{Error, Result};
 use std::path::{Path, PathBuf};
@@ -32,10 +33,12 @@ fn name(path: &Path) -> String {
     format!("vector {}", path.display())
 }
 
-/// NAME.sheet with NAME.key.
+/// NAME.sheet with NAME.key, and NAME.table where there is one.
 pub fn sheets(folder: &Path) -> Result<Vec<Case>> {
     let case = |path: &PathBuf| {
-        Ok(Case { name: name(path), bytes: read(path)?, expected: Expected::Key(read(path.with_extension("key"))?) })
+        let case = Case::new(name(path), read(path)?, Expected::Key(read(path.with_extension("key"))?));
+        let table = path.with_extension("table");
+        Ok(if table.exists() { Case { table: TableFile::Bytes(read(table)?), ..case } } else { case })
     };
     paths(folder, "sheet")?.iter().map(case).collect()
 }

@@ -1,11 +1,12 @@
-//! The four calls with lent buffers: the answer as numbers, and the buffer as 01 leaves it.
+//! The five calls with lent buffers: the answer as numbers, and the buffer as 01 leaves it.
 
 use crate::coder::{encode, INSTRUCTION_NUMBERS};
 use crate::compact;
 use crate::gather::gather;
-use crate::lift::lift;
+use crate::lift::{lift_by, Lifted, Table};
 use crate::player::{play, LAMP_BYTES};
-use crate::refusal::{Refusal, SHORT_CODE_BUFFER, SHORT_TREE_BUFFER, UNDER_64_BYTES};
+use crate::refusal::{Refusal, SHORT_CODE_BUFFER, SHORT_TREE_BUFFER, TABLE_WORD, UNDER_64_BYTES};
+use crate::table::School;
 use crate::tree::MAXIMUM_NODES;
 
 /// The least buffers of the calls.
@@ -34,11 +35,31 @@ fn written<T>(
     Ok((numbers.len() as u32, rest))
 }
 
-pub fn lift_call(tree: &[u16], position: usize, levels: usize, out: &mut [u16]) -> LiftAnswer {
-    let call = || lift(tree, position, levels).map(|lifted| (lifted.tree, (lifted.position, lifted.looks)));
+fn lifted(table: Table, tree: &[u16], position: usize, levels: usize, out: &mut [u16]) -> LiftAnswer {
+    let parts = |Lifted { tree, position, looks }| (tree, (position, looks));
+    let call = || lift_by(table, tree, position, levels).map(parts);
     match written(out, TREE_BUFFER, SHORT_TREE_BUFFER, call) {
         Ok((length, (position, looks))) => [0, length, position as u32, looks as u32],
         Err(number) => [number.into(), 0, 0, 0],
+    }
+}
+
+pub fn lift_call(tree: &[u16], position: usize, levels: usize, out: &mut [u16]) -> LiftAnswer {
+    lifted(Table::Ours, tree, position, levels, out)
+}
+
+/// The lift by a school's table held by value. One that loading could not have made is refused before all else.
+pub fn lift_with_call(
+    tree: &[u16],
+    position: usize,
+    levels: usize,
+    out: &mut [u16],
+    signs: &[u8],
+    lengths: &[u8],
+) -> LiftAnswer {
+    match School::of_rows(signs, lengths) {
+        Some(school) => lifted(Table::School(&school), tree, position, levels, out),
+        None => [TABLE_WORD.into(), 0, 0, 0],
     }
 }
 

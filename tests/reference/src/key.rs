@@ -2,9 +2,10 @@
 
 use crate::coder::{encode, run, ADD, BOTH, CUT, INSTRUCTION_NUMBERS, LOAD};
 use crate::gather::gather;
-use crate::lift::{lift_noting_steps, Step};
-use crate::refusal::{Refusal, INTERSECTION_ABOVE, NO_STEP};
+use crate::lift::{lift_noting_steps, Step, Table};
+use crate::refusal::{Refusal, INTERSECTION_ABOVE, NO_STEP, RESULT_TOO_LONG};
 use crate::sheet::{read, Fault, Sheet};
+use crate::table::School;
 
 #[derive(Debug, Clone, Copy, PartialEq, Eq)]
 pub enum Held {
@@ -31,7 +32,7 @@ pub struct Lifts {
     pub steps: Vec<Step>,
     /// Those of these steps that another of the same lift follows, in the state that they lead to.
     pub followed_steps: Vec<Step>,
-    /// The steps that were refused with 15 or 27.
+    /// The steps that were refused with 15, 16 or 27.
     pub refused_steps: Vec<RefusedStep>,
 }
 
@@ -42,11 +43,16 @@ pub struct RefusedStep {
     pub before: Option<Step>,
 }
 
+/// By our own table.
 pub fn lifts(sheet: &Sheet) -> Lifts {
+    lifts_by(Table::Ours, sheet)
+}
+
+pub fn lifts_by(table: Table, sheet: &Sheet) -> Lifts {
     let mut lifts = Lifts { tree: sheet.tree.clone(), ..Lifts::default() };
     for &(position, levels) in &sheet.lifts {
         let mut steps = Vec::new();
-        lifts.lines.push(match lift_noting_steps(&lifts.tree, position, levels, &mut steps) {
+        lifts.lines.push(match lift_noting_steps(table, &lifts.tree, position, levels, &mut steps) {
             Ok(lifted) => {
                 lifts.tree = lifted.tree;
                 lifts.followed_steps.extend_from_slice(&steps[..steps.len() - 1]);
@@ -54,7 +60,7 @@ pub fn lifts(sheet: &Sheet) -> Lifts {
                 (0, lifted.position, lifted.looks)
             }
             Err(number) => {
-                if [NO_STEP, INTERSECTION_ABOVE].contains(&number) {
+                if [NO_STEP, RESULT_TOO_LONG, INTERSECTION_ABOVE].contains(&number) {
                     let step = steps.pop().expect("a step");
                     lifts.refused_steps.push(RefusedStep { number, step, before: steps.pop() });
                 }
@@ -80,10 +86,22 @@ pub fn key(lifts: &Lifts, marks: &[u16]) -> Key {
     }
 }
 
-/// The key's bytes for any bytes.
+/// The key's bytes for any bytes, by our own table.
 pub fn key_bytes(bytes: &[u8]) -> Vec<u8> {
+    key_bytes_by(Table::Ours, bytes)
+}
+
+pub fn key_bytes_by(table: Table, bytes: &[u8]) -> Vec<u8> {
     match read(bytes) {
-        Ok(sheet) => key(&lifts(&sheet), &sheet.marks).print(),
+        Ok(sheet) => key(&lifts_by(table, &sheet), &sheet.marks).print(),
+        Err(fault) => fault.print(),
+    }
+}
+
+/// The key's bytes by the table of a file's bytes; a refused table is all that is looked at.
+pub fn school_key_bytes(table: &[u8], sheet: impl FnOnce() -> Vec<u8>) -> Vec<u8> {
+    match School::load(table) {
+        Ok(school) => key_bytes_by(Table::School(&school), &sheet()),
         Err(fault) => fault.print(),
     }
 }

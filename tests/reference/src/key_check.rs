@@ -2,13 +2,16 @@
 
 use crate::check::{ensure, gathered_tree};
 use crate::coder::{encode, run, ADD, BOTH, CUT, INSTRUCTION_NUMBERS, LOAD, REGISTERS};
-use crate::gather::holder;
-use crate::key::{key, lifts, Held, Key};
-use crate::key_traits::{group_traits, intersection_traits, lift_traits, marks, refused_traits, Marks, Trait};
+use crate::gather::{gather, holder};
+use crate::key::{key, lifts_by, Held, Key};
+use crate::key_traits::{group_traits, intersection_traits, lift_traits, refused_table_traits, school_traits};
+use crate::key_traits::{marks, refused_traits, Marks, Trait};
+use crate::lift::Table;
 use crate::player::{index, lamp_bytes, play, LAST_LAMP};
 use crate::random::Random;
-use crate::refusal::INTERSECTION_ABOVE;
+use crate::refusal::{INTERSECTION_ABOVE, NOT_GATHERABLE};
 use crate::sheet::{read, Sheet, SHEET_NODES};
+use crate::table::School;
 use crate::tree::{groups, select, without_intersection, Nodes, Operator, LAST_GROUP};
 
 /// The tree that instructions compute in register 0, if each result is used once.
@@ -121,8 +124,18 @@ fn same_bytes(printed: &[u8], expected: &[u8]) -> Result<(), String> {
     ensure(printed == expected, &format!("line {} is not 01's", first_difference(printed, expected)))
 }
 
-fn accepted(sheet: &Sheet, printed: &[u8], random: &mut Random) -> Result<Vec<Trait>, String> {
-    let lifts = lifts(sheet);
+/// The verdict is that on the tree as written, whatever the lifts and the table.
+fn verdict(sheet: &Sheet, printed: &Key) -> Result<(), String> {
+    if sheet.marks.is_empty() {
+        return ensure(printed.held.is_none(), "HELD without marks");
+    }
+    let refused = printed.held == Some(Held::Cannot(NOT_GATHERABLE));
+    let due = gather(&sheet.tree, &sheet.marks).err() == Some(NOT_GATHERABLE);
+    ensure(refused == due, "the verdict is not that on the tree as written")
+}
+
+fn accepted(table: Table, sheet: &Sheet, printed: &[u8], random: &mut Random) -> Result<Vec<Trait>, String> {
+    let lifts = lifts_by(table, sheet);
     let expected = key(&lifts, &sheet.marks);
     let marks = marks(sheet, &lifts.tree, &expected);
     let parsed = Key::parse(printed);
@@ -132,6 +145,7 @@ fn accepted(sheet: &Sheet, printed: &[u8], random: &mut Random) -> Result<Vec<Tr
     let parsed = parsed.ok_or("the bytes are not those of a key")?;
     looks(sheet, &parsed)?;
     as_before_both(sheet, &parsed)?;
+    verdict(sheet, &parsed)?;
     if marks == Marks::Gatherable {
         ensure(parsed.lifts == expected.lifts, "the LIFT lines are not 01's")?;
         free_code(sheet, &lifts.tree, &parsed)?;
@@ -145,6 +159,7 @@ fn accepted(sheet: &Sheet, printed: &[u8], random: &mut Random) -> Result<Vec<Tr
     let mut traits = lift_traits(&lifts);
     traits.extend(group_traits(sheet, &parsed.code));
     traits.extend(intersection_traits(sheet, &lifts.tree, marks));
+    traits.extend(school_traits(table, sheet, &lifts));
     traits.push(Trait::Marked(marks));
     if sheet.tree.len() == SHEET_NODES {
         traits.push(Trait::MostNodes);
@@ -152,10 +167,23 @@ fn accepted(sheet: &Sheet, printed: &[u8], random: &mut Random) -> Result<Vec<Tr
     Ok(traits)
 }
 
-/// Checks the key that a program printed for any bytes.
-pub fn sheet_key(bytes: &[u8], printed: &[u8], random: &mut Random) -> Result<Vec<Trait>, String> {
+fn key_by(table: Table, bytes: &[u8], printed: &[u8], random: &mut Random) -> Result<Vec<Trait>, String> {
     match read(bytes) {
-        Ok(sheet) => accepted(&sheet, printed, random),
+        Ok(sheet) => accepted(table, &sheet, printed, random),
         Err(fault) => same_bytes(printed, &fault.print()).map(|()| refused_traits(bytes, &fault)),
+    }
+}
+
+/// Checks the key that a program printed for any bytes, with a school's table or without.
+pub fn sheet_key(
+    table: Option<&[u8]>,
+    bytes: &[u8],
+    printed: &[u8],
+    random: &mut Random,
+) -> Result<Vec<Trait>, String> {
+    match table.map(School::load) {
+        None => key_by(Table::Ours, bytes, printed, random),
+        Some(Ok(school)) => key_by(Table::School(&school), bytes, printed, random),
+        Some(Err(fault)) => same_bytes(printed, &fault.print()).map(|()| refused_table_traits(bytes, &fault)),
     }
 }

@@ -3,9 +3,9 @@
 use crate::coder::{INSTRUCTION_NUMBERS, LOAD};
 use crate::gather::holder;
 use crate::key::{Held, Key, Lifts, RefusedStep};
-use crate::lift::{is_intersection, Step};
-use crate::refusal::{INTERSECTION_ABOVE, NO_STEP, NO_SUCH_FORM};
-use crate::sheet::{Fault, Sheet};
+use crate::lift::{is_intersection, Step, Table};
+use crate::refusal::{INTERSECTION_ABOVE, NO_STEP, NO_SUCH_FORM, RESULT_TOO_LONG};
+use crate::sheet::{read, Fault, Sheet};
 use crate::tree::{without_intersection, Node, Nodes, Operator, LAST_GROUP, MAXIMUM_NODES};
 
 #[derive(Clone, Copy, PartialEq, Eq, PartialOrd, Ord, Debug)]
@@ -48,7 +48,19 @@ pub enum Trait {
     /// A tree that is gathered already, with an `I` above the holder, and with an `I` in it.
     HolderBelowIntersection,
     HolderWithIntersection,
+    /// A school's table refused, beside a sheet that would be accepted or refused.
+    TableRefused(u16),
+    TableAndSheetRefused(u16),
+    /// Steps by a school's word that has one letter many times: done, and refused with 16.
+    CopyingStep,
+    CopyingStepTooLong,
+    /// Accepted with a school's table, by whether the tree has an `I`.
+    SchoolWithoutIntersection,
+    SchoolWithIntersection,
 }
+
+/// So often a word names one letter that copies a part many times.
+const MANY_COPIES: usize = 5;
 
 /// What happened to the marks of an accepted sheet.
 #[derive(Clone, Copy, PartialEq, Eq, PartialOrd, Ord, Debug)]
@@ -93,6 +105,7 @@ fn refused_step_traits(refused: &RefusedStep) -> Vec<Trait> {
     let RefusedStep { number, step, before } = refused;
     let own = match *number {
         NO_STEP => step.state().map(|state| Trait::StepRefused(step.level, state)),
+        RESULT_TOO_LONG => None,
         _ => intersection_trait(step),
     };
     let before = before.filter(|_| *number == INTERSECTION_ABOVE);
@@ -183,4 +196,30 @@ pub fn refused_traits(bytes: &[u8], fault: &Fault) -> Vec<Trait> {
     let past_last = ["G", "K"].map(|kind| format!("{kind}\t{}", LAST_GROUP + 1));
     let for_group = past_last.iter().any(|past_last| line == Some(past_last.as_bytes()));
     [refused].into_iter().chain(for_group.then_some(Trait::GroupPastLast)).collect()
+}
+
+/// What a refused table shows beside this sheet.
+pub fn refused_table_traits(bytes: &[u8], fault: &Fault) -> Vec<Trait> {
+    match read(bytes) {
+        Ok(_) => vec![Trait::TableRefused(fault.number)],
+        Err(_) => vec![Trait::TableAndSheetRefused(fault.number)],
+    }
+}
+
+/// Whether a step is by a school's word that names one letter many times.
+fn is_copying(table: Table, step: &Step) -> bool {
+    let (Table::School(school), Some(state), Some(input)) = (table, step.state(), step.above) else { return false };
+    let word = school.word(state, input);
+    b"BCD".iter().any(|letter| word.iter().filter(|sign| *sign == letter).count() >= MANY_COPIES)
+}
+
+/// What a sheet shows of a school's table.
+pub fn school_traits(table: Table, sheet: &Sheet, lifts: &Lifts) -> Vec<Trait> {
+    let Table::School(_) = table else { return Vec::new() };
+    let without = without_intersection(&sheet.tree);
+    let mut traits = vec![if without { Trait::SchoolWithoutIntersection } else { Trait::SchoolWithIntersection }];
+    traits.extend(lifts.steps.iter().filter(|step| is_copying(table, step)).map(|_| Trait::CopyingStep));
+    let too_long = lifts.refused_steps.iter().filter(|refused| refused.number == RESULT_TOO_LONG);
+    traits.extend(too_long.filter(|refused| is_copying(table, &refused.step)).map(|_| Trait::CopyingStepTooLong));
+    traits
 }

@@ -1,5 +1,6 @@
 //! A second implementation of documents 01 and 02, and the checks that use it.
 
+pub mod bad_words;
 pub mod calls;
 pub mod check;
 pub mod closure;
@@ -19,4 +20,6 @@ pub mod refusal;
 pub mod report;
 pub mod shape;
 pub mod sheet;
+pub mod table;
 pub mod tree;
+pub mod words;

@@ -1,6 +1,7 @@
-//! The lift (01, "The lift", and 02, Tickets 2 and 6), as a rewriting of the frames above A.
+//! The lift (01, "The lift", and 02, Tickets 2, 6 and 7), as a rewriting of the frames above A.
 
 use crate::refusal::*;
+use crate::table::School;
 use crate::tree::{Node, Nodes, Operator, MAXIMUM_NODES};
 
 #[derive(Clone, Copy, PartialEq, Eq)]
@@ -83,6 +84,13 @@ impl Step {
     }
 }
 
+/// The table by which a lift is done.
+#[derive(Clone, Copy)]
+pub enum Table<'a> {
+    Ours,
+    School(&'a School),
+}
+
 /// A tree taken apart at A: the nodes above A from the root down, and how many nodes it has.
 struct Place {
     nodes: Nodes,
@@ -114,21 +122,68 @@ impl Place {
     }
 
     /// Makes this step, A's next; refused with 27 for an `I`, with 15 for want of D.
-    fn make(&mut self, step: Step) -> Result<(), Refusal> {
+    /// A school's words take the place of all steps that have a D.
+    fn make(&mut self, step: Step, table: Table) -> Result<(), Refusal> {
         let state = step.state().ok_or(INTERSECTION_ABOVE)?;
         let grandparent = step.level - 2;
         let (b, c) = (self.frames[grandparent + 1].sibling, self.frames[grandparent].sibling);
-        if let Some(frame) = self.step_within(state, b, c) {
-            self.replace(grandparent, &[frame]);
-            return Ok(());
+        if step.above.is_none() || matches!(table, Table::Ours) {
+            if let Some(frame) = self.step_within(state, b, c) {
+                self.replace(grandparent, &[frame]);
+                return Ok(());
+            }
         }
-        if step.above.is_some_and(is_intersection) {
+        let letter = step.above.ok_or(NO_STEP)?;
+        if is_intersection(letter) {
             return Err(INTERSECTION_ABOVE);
         }
-        let above = grandparent.checked_sub(1).ok_or(NO_STEP)?;
-        let frames = self.step_with(state, b, c, self.frames[above]);
+        let above = grandparent - 1;
+        let input = self.frames[above];
+        let frames = match table {
+            Table::Ours => self.step_with(state, b, c, input),
+            Table::School(school) => self.step_by_word(school.word(state, letter), b, c, input.sibling),
+        };
         self.replace(above, &frames);
         Ok(())
+    }
+
+    /// The two frames above A that a school's word has when these are B, C and D.
+    fn step_by_word(&mut self, word: &[u8], b: usize, c: usize, d: usize) -> [Frame; 2] {
+        // Of the operands that wait, the one with A has no node.
+        let mut waiting: Vec<Option<usize>> = Vec::with_capacity(word.len());
+        let mut frames = Vec::with_capacity(2);
+        for sign in word {
+            let operand = match sign {
+                b'A' => None,
+                b'B' => Some(b),
+                b'C' => Some(c),
+                b'D' => Some(d),
+                _ => {
+                    let operator = if *sign == b'+' { Operator::Union } else { Operator::Difference };
+                    let (right, left) = (waiting.pop().expect("an operand"), waiting.pop().expect("an operand"));
+                    self.join(operator, left, right, &mut frames)
+                }
+            };
+            waiting.push(operand);
+        }
+        [frames[1], frames[0]]
+    }
+
+    /// A node of two operands; if one has A, there is a frame more above A.
+    fn join(
+        &mut self,
+        operator: Operator,
+        left: Option<usize>,
+        right: Option<usize>,
+        frames: &mut Vec<Frame>,
+    ) -> Option<usize> {
+        let (side, sibling) = match (left, right) {
+            (Some(left), Some(right)) => return Some(self.nodes.branch(operator, left, right)),
+            (None, sibling) => (Side::Left, sibling),
+            (sibling, None) => (Side::Right, sibling),
+        };
+        frames.push(Frame { operator, side, sibling: sibling.expect("A stands once in a word") });
+        None
     }
 
     /// States 1 to 4: the one frame that takes the place of two.
@@ -228,11 +283,17 @@ pub struct Lifted {
 
 /// The lifted tree, or 12 to 16 or 27.
 pub fn lift(list: &[u16], position: usize, levels: usize) -> Result<Lifted, Refusal> {
-    lift_noting_steps(list, position, levels, &mut Vec::new())
+    lift_by(Table::Ours, list, position, levels)
+}
+
+/// The same by any table.
+pub fn lift_by(table: Table, list: &[u16], position: usize, levels: usize) -> Result<Lifted, Refusal> {
+    lift_noting_steps(table, list, position, levels, &mut Vec::new())
 }
 
 /// The same, noting each step that is made or refused.
 pub fn lift_noting_steps(
+    table: Table,
     list: &[u16],
     position: usize,
     levels: usize,
@@ -250,7 +311,7 @@ pub fn lift_noting_steps(
     for _ in 0..levels {
         let step = place.next_step();
         steps.push(step);
-        place.make(step)?;
+        place.make(step, table)?;
         looks += 1;
         if place.count > MAXIMUM_NODES {
             return Err(RESULT_TOO_LONG);

@@ -35,3 +35,7 @@ pub const FOREIGN_GROUP: Refusal = 26;
 
 /// 02, request 6.
 pub const INTERSECTION_ABOVE: Refusal = 27;
+
+/// 02, request 7.
+pub const TABLE_FORM: Refusal = 28;
+pub const TABLE_WORD: Refusal = 29;

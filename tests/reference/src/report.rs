@@ -57,6 +57,11 @@ impl Report {
         for (category, count) in &self.counts {
             println!("  {count:>6} {category}");
         }
+        self.categories_met(least);
+    }
+
+    /// Tests that each category of `least` was met often enough.
+    pub fn categories_met(&mut self, least: &[(String, usize)]) {
         for (category, least) in least {
             let count = self.counts.get(category).copied().unwrap_or(0);
             let fault = format!("met {count} times, {least} are due");

@@ -26,6 +26,29 @@ pub unsafe extern "C" fn lift_call(
 /// # Safety
 /// As for `lift_call`.
 #[no_mangle]
+pub unsafe extern "C" fn lift_with_call(
+    tree: *const u16,
+    tree_length: usize,
+    position: usize,
+    levels: usize,
+    out: *mut u16,
+    out_length: usize,
+    signs: *const u8,
+    signs_length: usize,
+    lengths: *const u8,
+    lengths_length: usize,
+    answer: *mut u32,
+    answer_length: usize,
+) {
+    let (tree, out) = (from_raw_parts(tree, tree_length), from_raw_parts_mut(out, out_length));
+    let (signs, lengths) = (from_raw_parts(signs, signs_length), from_raw_parts(lengths, lengths_length));
+    let numbers = calls::lift_with_call(tree, position, levels, out, signs, lengths);
+    from_raw_parts_mut(answer, answer_length).copy_from_slice(&numbers);
+}
+
+/// # Safety
+/// As for `lift_call`.
+#[no_mangle]
 pub unsafe extern "C" fn gather_call(
     tree: *const u16,
     tree_length: usize,
