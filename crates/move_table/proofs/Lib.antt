@@ -5,3 +5,4 @@ pub mod LoadLaws
 pub mod SchoolLaws
 pub mod Theorems
 pub mod EnoughLaws
+pub mod OwnLaws

@@ -64,11 +64,6 @@ LeavesTwoUnder w v none = Unit {0}
 abbrev pub NextIs : List ℕ → Bool → ℕ → ℕ → Type 0
 NextIs w b input r = (v : Move) (i : Option Input) → onlyT v ≡ b → InputIs input i → LeavesTwoUnder w v i → r ≡ optionalNumber (stateAfter v i)
 
--- a table replaces T alone in the states up to `last`, there with our own entries
-pub record AloneUpTo (m : MoveTable) (last : ℕ) : Type 0 where
-  pub says : (x : State) → onlyT (m x) ≡ leb (stateNumber x) last
-  pub own : (x : State) → onlyT (m x) ≡ true → m x ≡ ours x
-
 -- ---- a table as the code holds it
 -- a school's words: their signs, in rows of 31, and their lengths
 pub record WordsHeld (f : State → Input → Formula) (signs lengths : List ℕ) : Type 0 where
@@ -90,3 +85,11 @@ pub record TableIs (m : MoveTable) (signs lengths : List ℕ) : Type 0 where
 -- these are some table
 abbrev pub SomeTable : List ℕ → List ℕ → Type 0
 SomeTable signs lengths = (m : MoveTable) × TableIs m signs lengths
+
+-- such a table replaces T alone in the states up to `last`, there with our own entries
+pub record AloneUpTo (m : MoveTable) (last : ℕ) : Type 0 where
+  pub signs : List ℕ
+  pub lengths : List ℕ
+  pub holds : TableIs m signs lengths
+  pub says : (x : State) → onlyT (m x) ≡ leb (stateNumber x) last
+  pub own : (x : State) → onlyT (m x) ≡ true → m x ≡ ours x

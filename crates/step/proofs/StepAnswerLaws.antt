@@ -205,10 +205,16 @@ table-alone {m} {signs} {lengths} K last e = go lengths (K .by) e
     go [] k (inr e) = absurd (e .0 refl)
     go (y ∷ ns) k (inl e) = absurd (omega (arith, e .0))
     go [] k (inl e) = record {
+      signs = signs;
+      lengths = lengths;
+      holds = K;
       says = λ x. ap (λ (m : MoveTable). onlyT (m x)) k ∙ alone-number x ∙ ap (leb (stateNumber x)) (sym (e .1));
       own = λ x h. ap (λ (m : MoveTable). m x) k;
     }
     go (y ∷ ns) k (inr e) = record {
+      signs = signs;
+      lengths = lengths;
+      holds = K;
       says = λ x. ap (λ (m : MoveTable). onlyT (m x)) (k .1) ∙ sym (ap (leb (stateNumber x)) (e .1) ∙ lt-leb (stateNumber x) 0 (omega (arith, state-range x)));
       own = λ x h. absurd (false≢true (sym (ap (λ (m : MoveTable). onlyT (m x)) (k .1)) ∙ h));
     }

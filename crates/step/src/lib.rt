@@ -10,7 +10,6 @@ ghost use Rattle.tree.specs.InnerPart.{Part, Located};
 ghost use Rattle.words.specs.Word.{mostSigns};
 ghost use Rattle.moves.specs.Moves.{MoveTable};
 ghost use Rattle.moves.specs.InnerEntries.{AloneUpTo, TableIs, SomeTable};
-ghost use Rattle.moves.proofs.MoveLaws.{Right};
 ghost use Rattle.step.specs.InnerStanding.{StateIs, Standing, Stands};
 ghost use Rattle.step.specs.InnerSteps.{FrameIs, ReplaceIs, Planned, Carries, CarriesSome, PlannedSome, StepIs};
 use moves::LAST_ALONE;
@@ -85,7 +84,7 @@ fn frame_above(list: &[u16], part: Stretch) -> Framed
 // with the input and the stretch of T with D. Where there is no D, our own entries are used.
 fn plan_step(list: &[u16], node: Node, last: usize) -> Plan
     requires { ⌜ Stands (now list) node ⌝ }
-    ensures { λ r. ⌜ ((m : MoveTable) → Right m → AloneUpTo m last → (a : Tree) (c : List Frame) → Standing (now (list .entry)) node a c
+    ensures { λ r. ⌜ ((m : MoveTable) → AloneUpTo m last → (a : Tree) (c : List Frame) → Standing (now (list .entry)) node a c
         → Planned m (now (list .entry)) node c r) ⌝ }
 {
     let part = Stretch {

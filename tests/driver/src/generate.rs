@@ -2,6 +2,7 @@
 
 use crate::damage::damaged;
 use crate::growth::grown_to_limit;
+use crate::kinds::{self, Kind};
 use reference::gather::{gather, holder};
 use reference::lift::{lift_by, Table};
 use reference::random::Random;
@@ -12,10 +13,7 @@ use reference::sheet::{Sheet, SHEET_NODES};
 use reference::tree::{groups, Node, Nodes, Operator};
 use reference::tree::{DIFFERENCE, INTERSECTION, LAST_GROUP, UNION};
 
-/// A kind of sheet and how many of all the shares are of it.
-type Kind = (&'static str, usize, fn(&mut Random) -> Vec<u8>);
-
-pub const KINDS: [Kind; 16] = [
+pub const KINDS: [Kind<Vec<u8>>; 16] = [
     ("plain", 5, |random| plain(random).print()),
     ("lifted", 11, |random| lifted(random).print()),
     ("lifted near the root", 7, |random| lifted_near_root(random).print()),
@@ -36,21 +34,12 @@ pub const KINDS: [Kind; 16] = [
 
 /// The sum of the shares.
 pub fn shares() -> usize {
-    KINDS.iter().map(|(_, share, _)| share).sum()
+    kinds::shares(&KINDS)
 }
 
 /// The sheet of a number: its kind and its bytes.
 pub fn random_sheet(number: u64, seed: u64) -> (&'static str, Vec<u8>) {
-    let mut random = Random::new(seed.wrapping_mul(1_000_003).wrapping_add(number));
-    random.next();
-    let mut choice = number as usize % shares();
-    for (name, share, make) in KINDS {
-        if choice < share {
-            return (name, make(&mut random));
-        }
-        choice -= share;
-    }
-    unreachable!("the choice is below the sum of the shares")
+    kinds::random_input(&KINDS, number, seed.wrapping_mul(1_000_003))
 }
 
 pub fn unmarked(tree: Vec<u16>) -> Sheet {

@@ -4,6 +4,7 @@ pub mod cases;
 pub mod damage;
 pub mod generate;
 pub mod growth;
+pub mod kinds;
 pub mod limits;
 pub mod marks;
 pub mod program;

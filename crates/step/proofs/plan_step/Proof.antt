@@ -4,6 +4,7 @@ use mathlib.Core.List.{List}
 use native.Mathlib.Omega.{arith}
 use Rattle.tree.specs.Tree.{Tree, node}
 use Rattle.tree.specs.Context.{Frame, sided}
+use Rattle.moves.proofs.MoveLaws.{table-right}
 use Rattle.step.specs.InnerStanding.{Standing}
 use Rattle.step.specs.InnerSteps.{UnderIs, FrameIs}
 use Rattle.step.proofs.PlanLaws.{no-parent, no-grandparent, blocked-without-state, t-without-d, stuck-without-d, t-alone, blocked-without-input, t-with-d}
@@ -56,7 +57,7 @@ enum-told : tie.Need-enum-told
 enum-told c = search needs
 
 returns : tie.Need-returns
-returns c = λ m R L a k S. no-parent m k (subst (FrameIs _ a k) (c .enum-told .given .1) (c .before .before .frame-above .ensures a k (S .part)))
+returns c = λ m L a k S. no-parent m k (subst (FrameIs _ a k) (c .enum-told .given .1) (c .before .before .frame-above .ensures a k (S .part)))
 
 frame-above-requires-2 : tie.Need-frame-above-requires-2
 frame-above-requires-2 c κs = let p = c .before .before .before .before .before .pre in (_, _, first c (p .0) (p .1) (p .2) .parent)
@@ -68,12 +69,12 @@ enum-told-2 : tie.Need-enum-told-2
 enum-told-2 c = search needs
 
 returns-2 : tie.Need-returns-2
-returns-2 c = λ m R L a k S.
+returns-2 c = λ m L a k S.
     let G = first (c .before .before .before) a k S in
     no-grandparent G m (subst (FrameIs _ _ (G .rest)) (c .enum-told2 .given .1) (c .before .before .frame-above2 .ensures _ (G .rest) (G .parent)))
 
 returns-3 : tie.Need-returns-3
-returns-3 c = λ m R L a k S.
+returns-3 c = λ m L a k S.
     let G = first (c .before .before .before .before .before .before) a k S in
     let H = second (c .before .before) a k G in
     blocked-without-state G H (c .before .before .before .before .before .before .before .before .before .before .before .args .node) (S .state) m (c .if1 .taken)
@@ -90,37 +91,37 @@ enum-told-3 : tie.Need-enum-told-3
 enum-told-3 c = search needs
 
 returns-4 : tie.Need-returns-4
-returns-4 c = λ m R L a k S.
+returns-4 c = λ m L a k S.
     let G = first (c .before .before .before .before .before .before .before .before .before .before .before) a k S in
     let H = second (c .before .before .before .before .before .before .before) a k G in
-    t-without-d G H (c .before .before .before .before .before .before .before .before .before .before .before .before .before .before .before .before .args .node) (S .state) R (c .before .before .before .before .before .if1 .left) (subst (FrameIs _ _ (H .rest)) (c .before .before .enum-told3 .given .1) (c .before .before .before .before .frame-above3 .ensures _ (H .rest) (H .parent))) (c .if2 .taken)
+    t-without-d G H (c .before .before .before .before .before .before .before .before .before .before .before .before .before .before .before .before .args .node) (S .state) (table-right (L .holds)) (c .before .before .before .before .before .if1 .left) (subst (FrameIs _ _ (H .rest)) (c .before .before .enum-told3 .given .1) (c .before .before .before .before .frame-above3 .ensures _ (H .rest) (H .parent))) (c .if2 .taken)
 
 returns-5 : tie.Need-returns-5
-returns-5 c = λ m R L a k S.
+returns-5 c = λ m L a k S.
     let G = first (c .before .before .before .before .before .before .before .before .before .before .before) a k S in
     let H = second (c .before .before .before .before .before .before .before) a k G in
-    stuck-without-d G H (c .before .before .before .before .before .before .before .before .before .before .before .before .before .before .before .before .args .node) (S .state) R (c .before .before .before .before .before .if1 .left) (subst (FrameIs _ _ (H .rest)) (c .before .before .enum-told3 .given .1) (c .before .before .before .before .frame-above3 .ensures _ (H .rest) (H .parent))) (c .if2 .left)
+    stuck-without-d G H (c .before .before .before .before .before .before .before .before .before .before .before .before .before .before .before .before .args .node) (S .state) (table-right (L .holds)) (c .before .before .before .before .before .if1 .left) (subst (FrameIs _ _ (H .rest)) (c .before .before .enum-told3 .given .1) (c .before .before .before .before .frame-above3 .ensures _ (H .rest) (H .parent))) (c .if2 .left)
 
 cast-input : tie.Need-cast-input
 cast-input c = search needs
 
 returns-6 : tie.Need-returns-6
-returns-6 c = λ m R L a k S.
+returns-6 c = λ m L a k S.
     let G = first (c .before .before .before .before .before .before .before .before .before .before .before .before) a k S in
     let H = second (c .before .before .before .before .before .before .before .before) a k G in
-    t-alone G H (c .before .before .before .before .before .before .before .before .before .before .before .before .before .before .before .before .before .args .node) (S .state) R (c .before .before .before .before .before .before .if1 .left) L (third (c .before .before) a k G H) (c .if3 .taken)
+    t-alone G H (c .before .before .before .before .before .before .before .before .before .before .before .before .before .before .before .before .before .args .node) (S .state) (table-right (L .holds)) (c .before .before .before .before .before .before .if1 .left) L (third (c .before .before) a k G H) (c .if3 .taken)
 
 returns-7 : tie.Need-returns-7
-returns-7 c = λ m R L a k S.
+returns-7 c = λ m L a k S.
     let G = first (c .before .before .before .before .before .before .before .before .before .before .before .before .before) a k S in
     let H = second (c .before .before .before .before .before .before .before .before .before) a k G in
-    blocked-without-input G H (c .before .before .before .before .before .before .before .before .before .before .before .before .before .before .before .before .before .before .args .node) (S .state) R (c .before .before .before .before .before .before .before .if1 .left) L (third (c .before .before .before) a k G H) (c .if4 .taken) (c .before .if3 .left)
+    blocked-without-input G H (c .before .before .before .before .before .before .before .before .before .before .before .before .before .before .before .before .before .before .args .node) (S .state) (table-right (L .holds)) (c .before .before .before .before .before .before .before .if1 .left) L (third (c .before .before .before) a k G H) (c .if4 .taken) (c .before .if3 .left)
 
 returns-8 : tie.Need-returns-8
-returns-8 c = λ m R L a k S.
+returns-8 c = λ m L a k S.
     let G = first (c .before .before .before .before .before .before .before .before .before .before .before .before .before) a k S in
     let H = second (c .before .before .before .before .before .before .before .before .before) a k G in
-    t-with-d G H (c .before .before .before .before .before .before .before .before .before .before .before .before .before .before .before .before .before .before .args .node) (S .state) R (c .before .before .before .before .before .before .before .if1 .left) L (third (c .before .before .before) a k G H) (omega (arith, c .if4 .left)) (c .before .if3 .left)
+    t-with-d G H (c .before .before .before .before .before .before .before .before .before .before .before .before .before .before .before .before .before .before .args .node) (S .state) (table-right (L .holds)) (c .before .before .before .before .before .before .before .if1 .left) L (third (c .before .before .before) a k G H) (omega (arith, c .if4 .left)) (c .before .if3 .left)
 
 pub plan-step-spec : {M : Type 1} → statement M
 plan-step-spec =

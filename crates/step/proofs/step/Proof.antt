@@ -7,7 +7,6 @@ use Rattle.moves.specs.Moves.{MoveTable}
 use Rattle.moves.specs.InnerEntries.{TableIs}
 use Rattle.step.specs.InnerStanding.{Standing}
 use Rattle.step.specs.InnerSteps.{Planned, ReplaceIs}
-use Rattle.moves.proofs.MoveLaws.{table-right}
 use Rattle.step.proofs.StepAnswerLaws.{table-alone}
 use borrow.Author.Needs.{needs}
 use Rattle.step.proofs.step.Statement.{statement}
@@ -27,7 +26,7 @@ plan : (c : tie.After-known-told) (m : MoveTable) → let g = c .before .before 
 plan c m K a k S =
     let g = c .before .before .before .before .before .before .before .before .before .args in
     subst (Planned m (g .list .now) (g .node) k) (c .before .alone .given .1)
-    (c .before .before .before .plan-step .ensures m (table-right K) (table-alone K _ (c .before .before .before .before .last-alone .ensures)) a k S)
+    (c .before .before .before .plan-step .ensures m (table-alone K _ (c .before .before .before .before .last-alone .ensures)) a k S)
 
 last-alone-requires : tie.Need-last-alone-requires
 last-alone-requires c κs = search needs
@@ -54,11 +53,11 @@ replace-by-requires c κs = let P = c .before .before .before .before .before .b
 
 -- src/lib.rt:195:1
 returns : tie.Need-returns
-returns c = λ m K a k S. let g = c .before .before .before .before .before .before .before .before .args in subst (Planned m (g .list .now) (g .node) k) (c .enum-told .given .1) (c .before .before .plan-step .ensures m (table-right K) (table-alone K _ (c .before .before .before .last-alone .ensures)) a k S)
+returns c = λ m K a k S. let g = c .before .before .before .before .before .before .before .before .args in subst (Planned m (g .list .now) (g .node) k) (c .enum-told .given .1) (c .before .before .plan-step .ensures m (table-alone K _ (c .before .before .before .last-alone .ensures)) a k S)
 
 -- src/lib.rt:195:1
 returns-2 : tie.Need-returns-2
-returns-2 c = λ m K a k S. let g = c .before .before .before .before .before .before .before .before .args in subst (Planned m (g .list .now) (g .node) k) (c .enum-told2 .given .1) (c .before .before .plan-step .ensures m (table-right K) (table-alone K _ (c .before .before .before .last-alone .ensures)) a k S)
+returns-2 c = λ m K a k S. let g = c .before .before .before .before .before .before .before .before .args in subst (Planned m (g .list .now) (g .node) k) (c .enum-told2 .given .1) (c .before .before .plan-step .ensures m (table-alone K _ (c .before .before .before .last-alone .ensures)) a k S)
 
 -- src/lib.rt:195:1
 same-length : tie.Need-same-length

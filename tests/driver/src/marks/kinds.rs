@@ -6,13 +6,10 @@ use super::lines::{bad_form_line, lift_or_mark_line, Place};
 use super::pair::Pair;
 use super::questions::*;
 use super::refused::*;
-use reference::random::Random;
+use crate::kinds::{self, Kind};
 use reference::{compact, gather};
 
-/// A kind of pair and how many of all the shares are of it.
-type Kind = (&'static str, usize, fn(&mut Random) -> Pair);
-
-pub const KINDS: [Kind; 43] = [
+pub const KINDS: [Kind<Pair>; 43] = [
     ("own tree", 6, own_tree),
     ("own tree, gathered anew by the plain builder", 8, |random| own_tree_by(gather::gather, random)),
     ("own tree, gathered anew by the compact builder", 8, |random| own_tree_by(compact::gather, random)),
@@ -62,19 +59,11 @@ pub const KINDS: [Kind; 43] = [
 
 /// The sum of the shares.
 pub fn shares() -> usize {
-    KINDS.iter().map(|(_, share, _)| share).sum()
+    kinds::shares(&KINDS)
 }
 
 /// The pair of a number: its kind and its files.
 pub fn random_pair(number: u64, seed: u64) -> (&'static str, Pair) {
-    let mut random = Random::new(seed.wrapping_mul(1_000_003).wrapping_add(number));
-    random.next();
-    let mut choice = number as usize % shares();
-    for (kind, share, make) in KINDS {
-        if choice < share {
-            return (kind, Pair { name: format!("pair {number} ({kind})"), ..make(&mut random) });
-        }
-        choice -= share;
-    }
-    unreachable!("the choice is below the sum of the shares")
+    let (kind, pair) = kinds::random_input(&KINDS, number, seed.wrapping_mul(1_000_003));
+    (kind, Pair { name: format!("pair {number} ({kind})"), ..pair })
 }

@@ -4,6 +4,7 @@ use super::faults::FORM_FAULTS;
 use super::growth::grown_to_limit;
 use crate::damage::{damaged, damaged_table};
 use crate::generate::*;
+use crate::kinds::{self, Kind};
 use reference::bad_words::WORD_FAULTS;
 use reference::lift::Table;
 use reference::random::Random;
@@ -15,10 +16,7 @@ use reference::words::{copying_school, good_word, ours, random_school, Style};
 /// A table's bytes and a sheet's.
 type Made = (Vec<u8>, Vec<u8>);
 
-/// A kind and how many of all the shares are of it.
-type Kind = (&'static str, usize, fn(&mut Random) -> Made);
-
-pub const KINDS: [Kind; 15] = [
+pub const KINDS: [Kind<Made>; 15] = [
     ("lifted", 14, |random| by_any_school(random, lifted_by)),
     ("lifted near the root", 12, |random| by_any_school(random, lifted_near_root_by)),
     ("lifted near the root about I", 14, |random| by_any_school(random, lifted_about_intersections_by)),
@@ -38,21 +36,12 @@ pub const KINDS: [Kind; 15] = [
 
 /// The sum of the shares.
 pub fn shares() -> usize {
-    KINDS.iter().map(|(_, share, _)| share).sum()
+    kinds::shares(&KINDS)
 }
 
 /// The kind, the table and the sheet of a number.
 pub fn random_pair(number: u64, seed: u64) -> (&'static str, Made) {
-    let mut random = Random::new(seed.wrapping_mul(1_000_033).wrapping_add(number));
-    random.next();
-    let mut choice = number as usize % shares();
-    for (name, share, make) in KINDS {
-        if choice < share {
-            return (name, make(&mut random));
-        }
-        choice -= share;
-    }
-    unreachable!("the choice is below the sum of the shares")
+    kinds::random_input(&KINDS, number, seed.wrapping_mul(1_000_033))
 }
 
 fn any_school(random: &mut Random) -> School {
