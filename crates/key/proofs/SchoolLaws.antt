@@ -2,12 +2,11 @@
 use mathlib.Core.Path.{_≡_, sym, subst, _∙_}
 use mathlib.Core.Bool.{false}
 use mathlib.Core.List.{List, []}
-use mathlib.Core.Option.{Option, some}
+use mathlib.Core.Option.{some}
 use Prim.Native.Nat.{ℕ, _≤_}
 use lib.ListN.{length}
 use Rattle.common.specs.Exactly.{Exactly}
 use Rattle.tree.specs.Tree.{Tree}
-use Rattle.tree.specs.Parse.{treeOf}
 use Rattle.player.specs.Limits.{byteCount}
 use Rattle.player.specs.Instructions.{Instruction, numbersOf}
 use Rattle.player.specs.Playing.{wrongPairCount, wrongPatch, Plays}

@@ -9,19 +9,14 @@ use lib.Dec.{eqb}
 use borrow.Author.Tests.{eq-eqb, ne-eqb, eqb-true, eqb-false}
 use Rattle.tree.specs.Tree.{apply}
 use Rattle.words.specs.Formula.{Formula, once, levelOfA, agree}
-use Rattle.words.specs.Word.{word, waiting, formulaOf}
+use Rattle.words.specs.Word.{word, formulaOf}
+use Rattle.words.proofs.ReadLaws.{formula-of-word}
 use Rattle.moves.specs.Moves.{State, Input}
 use Rattle.moves.specs.LeftSides.{leftSide, ifStands, entryFor}
-use Rattle.moves.proofs.TableLaws.{same-entry}
 use Rattle.left_sides.specs.declared.Known.{Known}
 use Rattle.left_sides.specs.InnerKnown.{meaning, alike, capped, ifKnown}
 use Rattle.left_sides.specs.InnerStands.{isFormula}
 use Rattle.left_sides.proofs.MeaningLaws.{agree-alike}
-
--- a left side's word is the left side
-side-formula : (x : State) (i : Input) → formulaOf (word (leftSide x i)) ≡ some (leftSide x i)
-unfolding waiting formulaOf
-side-formula x i = same-entry (λ x i. formulaOf (word (leftSide x i))) (λ x i. some (leftSide x i)) refl x i
 
 -- level 2 is not capped
 level-two : (n : ℕ) → eqb (capped n) 2 ≡ eqb n 2
@@ -45,4 +40,4 @@ known-stands x i (some p) =
 pub stands-is : (x : State) (i : Input) (w side : List ℕ) (found wanted : Known) (second same : Bool) → side ≡ word (leftSide x i)
     → found ≡ ifKnown (formulaOf w) → wanted ≡ ifKnown (formulaOf side) → second ≡ eqb (found .level) 2 → same ≡ alike (found .meaning) (wanted .meaning)
     → (found .once && (second && same)) ≡ isFormula (entryFor x i w)
-stands-is x i w side found wanted second same e f g l s = rw (l, s, g, e, f, side-formula x i) (known-stands x i (formulaOf w))
+stands-is x i w side found wanted second same e f g l s = rw (l, s, g, e, f, formula-of-word (leftSide x i)) (known-stands x i (formulaOf w))

@@ -6,7 +6,6 @@ use mathlib.Core.List.{List}
 use Prim.Native.Nat.{ℕ}
 use lib.ListN.{length}
 use Rattle.words.specs.Formula.{Formula}
-use Rattle.moves.specs.Moves.{MoveTable}
 use Rattle.moves.specs.InnerEntries.{TableIs}
 use Rattle.move_table.specs.Loading.{schoolTable}
 use Rattle.move_table.specs.Packing.{unpacked, tableOf}

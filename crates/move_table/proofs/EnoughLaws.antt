@@ -8,8 +8,8 @@ use lib.ListN.{length, take, drop, length-append, take-append-drop}
 use lib.Seq.{take-append-add}
 use Rattle.text.specs.Line.{lineFeed}
 use Rattle.moves.specs.LeftSides.{entryFor}
-use Rattle.move_table.specs.Loading.{Place, places, front, frontBytes, wordIn, lineBytes, begins, Loaded, withEntry, loadFrom, loading}
-use Rattle.move_table.proofs.LineLaws.{lineOf, line-front, IsWord, line-is-word, line-begins}
+use Rattle.move_table.specs.Loading.{Place, places, front, frontBytes, wordIn, lineBytes, begins, withEntry, loadFrom, loading}
+use Rattle.move_table.proofs.LineLaws.{lineOf, line-front, line-is-word, line-begins}
 use Rattle.move_table.proofs.LoadLaws.{load-line, load-no-line}
 
 -- a line of good form, with fewer bytes after it

@@ -1,8 +1,6 @@
 -- Our own entries as a school's table: those of states 5 to 9 as they are, those of states 1 to 4, which replace T alone, with D joined on.
 use mathlib.Core.Path.{_≡_, refl, sym, subst}
-use mathlib.Core.Bool.{Bool, true}
-use mathlib.Core.List.{List}
-use Prim.Native.Nat.{ℕ, _≤_}
+use mathlib.Core.Bool.{true}
 use borrow.Author.Tests.{leb-true}
 use lib.Dec.{T, leb}
 use lib.ListN.{length}
@@ -12,7 +10,7 @@ use Rattle.moves.specs.Moves.{State, Input, under, Move, replaceT, replaceTWith
 use Rattle.moves.specs.LeftSides.{standsFor}
 use Rattle.moves.proofs.TableLaws.{same-entry}
 use Rattle.move_table.specs.Loading.{places, loaded, loading}
-use Rattle.move_table.proofs.SchoolLaws.{Stands, listed, text-loaded}
+use Rattle.move_table.proofs.SchoolLaws.{listed, text-loaded}
 use Rattle.move_table.proofs.Theorems.{tableText}
 
 -- what a move makes of T with D

@@ -279,9 +279,6 @@ module _ (t : LoadedTable) (ps : List Formula) (signs-count : length (t .signs) 
       let made = unpacked-made t ps signs-count lengths-count e in
       rw (made .in-rows, made .measured) (entries-table ps (made .entries))
 
-  pub unpacked-right : Right (schoolTable ps)
-  unpacked-right = school-right (entryIn ps) (λ x i. stands-at (unpacked-made t ps signs-count lengths-count e .entries) x i .stands)
-
 -- ---- the faults
 pub record Fault (number line : ℕ) (first last : ℕ) : Type 0 where
   pub least : 28 ≤ number

@@ -1,24 +1,22 @@
 -- A table is right if each of its entries may stand for its left side: ours is, by one computed test, and so is every school's whose words stand
 -- for theirs.
-use mathlib.Core.Path.{_≡_, refl, sym, ap, subst, _∙_}
-use mathlib.Core.Bool.{Bool, true, false, _&&_}
-use mathlib.Core.List.{List, [], _∷_, _++_, append-nil}
-use Prim.Native.Nat.{ℕ, _+_, _-_}
+use mathlib.Core.Path.{_≡_, refl, sym, subst, _∙_}
+use mathlib.Core.Bool.{Bool, _&&_}
+use mathlib.Core.List.{List, [], _∷_}
+use Prim.Native.Nat.{ℕ, _-_}
 use native.Mathlib.Omega.{arith}
 use lib.Dec.{T, eqb, eqb→eq, leb}
-use lib.ListN.{length, replicate, length-append}
+use lib.ListN.{length, length-append}
 use Rattle.tree.specs.Tree.{Basic, plus, minus, operatorOf, Tree, apply}
 use Rattle.tree.specs.Context.{Side, left, right, frame, sided}
 use Rattle.tree.proofs.TreeLaws.{and-left, and-right}
 use Rattle.words.specs.Formula.{Formula, A, B, C, D, join, framesOf, once, levelOfA, value, agree}
-use Rattle.words.specs.InnerWords.{blank, spell}
 use Rattle.moves.specs.Moves.{State, state1, state2, state3, state4, state5, state6, state7, state8, state9, stateNumber, stateOf, Input, inputA, inputB, inputC, inputD, inputOf, Move, replaceT, replaceTWithD, MoveTable, ours, school}
 use Rattle.moves.specs.LeftSides.{leftSide, standsFor}
 use Rattle.moves.specs.NextState.{kind, kindsAbove, kindOfInput, leftAbove}
-use Rattle.moves.specs.InnerEntries.{entryOf, padded, onlyT, TableBy, TableIs}
+use Rattle.moves.specs.InnerEntries.{entryOf, onlyT, TableBy, TableIs}
 use Rattle.words.proofs.Cases.{allKinds, at-kind}
 use Rattle.words.proofs.FormulaLaws.{replaces, Replaces, may-replace, agree-at, above-level}
-use Rattle.words.proofs.WordLaws.{spell-append, spell-blanks}
 use Rattle.moves.proofs.TableLaws.{same-entry}
 use Rattle.moves.proofs.SideLaws.{asksAll, all-agree, same-parts}
 
@@ -174,7 +172,3 @@ module _ (m : MoveTable) (R : Right m) where
 -- ours replaces T alone in states 1 to 4, a school's in none
 pub alone-number : (x : State) → onlyT (ours x) ≡ leb (stateNumber x) 4
 alone-number x = same-entry (λ x i. onlyT (ours x)) (λ x i. leb (stateNumber x) 4) refl x inputA
-
--- a row of the table stands for what its word stands for
-pub spell-padded : (l from to w : List ℕ) → spell l from to (padded w) ≡ spell l from to w
-spell-padded l from to w = spell-append l from to w (replicate (13 - length w) blank) ∙ rw (spell-blanks l from to (13 - length w)) (append-nil (spell l from to w))

@@ -1,7 +1,5 @@
 -- `lift_with` meets its contract: by the table that was handed over, or refused with 29.
-use mathlib.Core.Path.{_≡_, sym, ap, _∙_}
-use mathlib.Core.Option.{Option}
-use Rattle.moves.specs.Moves.{MoveTable}
+use mathlib.Core.Path.{sym, _∙_}
 use Rattle.lift.proofs.WholeLaws.{refuses, lifts-same}
 use Rattle.lift.proofs.SchoolLaws.{table-held, by-table, no-table}
 use borrow.Author.Needs.{needs}

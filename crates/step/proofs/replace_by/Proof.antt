@@ -1,6 +1,5 @@
 use native.Mathlib.Omega.{arith}
 use lib.ListN.{length-take, length-drop}
-use Rattle.moves.proofs.TableLaws.{state-range}
 use Rattle.step.proofs.StepAnswerLaws.{in-table, our-word, row-place, row-counted, row-signs, row-length, row-word}
 use borrow.Author.Needs.{needs}
 use Rattle.step.proofs.replace_by.Statement.{statement}
