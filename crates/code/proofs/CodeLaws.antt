@@ -1,42 +1,49 @@
--- Laws of the code of a tree: one induction for all of them; its length, what running it leaves, its numbers, the registers that it
--- names and the groups that it loads.
-use mathlib.Core.Path.{_≡_, refl, ap, _∙_}
-use mathlib.Core.Bool.{Bool, true, false, cond}
-use mathlib.Core.List.{List, [], _∷_, _++_}
-use Prim.Native.Nat.{ℕ, _+_, _*_, _≤_, _<_}
+-- Laws of a device's code, one induction for all of them, for every device alike: its length, the registers that it names and the law of
+-- need, the groups that it loads, and what running it leaves.
+use mathlib.Core.Path.{_≡_, refl, sym, ap, _∙_}
+use mathlib.Core.Bool.{Bool, true, false, cond, false≢true}
+use mathlib.Core.List.{List, [], _∷_, _++_, append-assoc}
+use Prim.Native.Nat.{ℕ, _+_, _<_}
 use native.Mathlib.Omega.{arith}
 use borrow.Author.Tests.{eq-eqb, ne-eqb}
 use lib.Dec.{T}
 use lib.ListN.{length, length-append}
-use Rattle.tree.specs.Tree.{Operator, union, difference, intersection, Tree, leaf, node, isGroup, size, Rig, apply, selects, selected, Over, WithoutIntersection}
-use Rattle.player.specs.Instructions.{Lamps, Registers, both, combined, Instruction, load, operate, run, numbersOf}
-use Rattle.player.proofs.InstructionLaws.{run-append, numbers-length}
-use Rattle.code.specs.Need.{leftFirst, inOrder}
-use Rattle.code.proofs.NeedLaws.{first, second, in-order-node, in-order-by, mostWaiting, waiting-node, waiting-need, need-positive}
-use Rattle.code.specs.Code.{operation, combine, code}
-use Rattle.code.specs.Effects.{Every, Within, Names, Loads}
+use Rattle.tree.specs.Tree.{Operator, union, difference, intersection, Tree, leaf, node, isGroup, size, Rig, apply, selects, selected, Over}
+use Rattle.player.specs.Instructions.{Lamps, Registers, combined, put}
+use Rattle.code.specs.Need.{need, leftFirst}
+use Rattle.code.specs.Code.{operation}
+use Rattle.code.proofs.NeedLaws.{first, second, need-node}
+use Rattle.code.specs.Need.{inOrder}
+use Rattle.code.specs.Waiting.{lowest, alsoIn}
+use Rattle.code.specs.Devices.{Device, PartCode, leafCode, nodeCode, partCode}
+use Rattle.code.specs.Acts.{Acts}
+use Rattle.code.specs.Effects.{Effect, Every, Names, Loads}
+use Rattle.code.proofs.NeedLaws.{in-order-node, in-order-by}
+use Rattle.code.specs.InnerWaiting.{waiting}
+use Rattle.code.proofs.WaitingLaws.{waits, lowest-free, lowest-most, also-waiting, also-free, also-there, also-still, Alike, lowest-alike, also-alike}
 
--- "The root's target is 0": the numbers of a tree's code, four for each instruction
-abbrev pub codeNumbers : Tree → List ℕ
-codeNumbers t = numbersOf (code t 0)
+-- ---- lists
+pub every-append : {A : Type 0} (P : A → Type 0) (xs ys : List A) → Every P xs → Every P ys → Every P (xs ++ ys)
+unfolding Every
+every-append P [] ys p q = q
+every-append P (x ∷ xs) ys p q = (p .0, every-append P xs ys (p .1) q)
 
--- ---- one induction
-pub code-leaf : (g : ℕ) (h : T (isGroup g)) (r : ℕ) → code (leaf g h) r ≡ load r g ∷ []
-unfolding code inOrder
-code-leaf g h r = refl
+pub every-implies : {A : Type 0} {P Q : A → Type 0} → ((x : A) → P x → Q x) → (xs : List A) → Every P xs → Every Q xs
+unfolding Every
+every-implies f [] p = tt
+every-implies f (x ∷ xs) p = (f x (p .0), every-implies f xs (p .1))
 
-pub code-node : (o : Operator) (l r : Tree) (k : ℕ) → code (node o l r) k ≡ code (first l r) k ++ (code (second l r) (k + 1) ++ (combine k o (leftFirst l r) ∷ []))
-unfolding code
-code-node o l r k = in-order-node (λ r g. load r g ∷ []) (λ r o f x y. x ++ (y ++ (combine r o f ∷ []))) k o l r
+-- ---- how the instructions of a device run; for 01's player it holds by computing
+pub record Runs {I B : Type 0} (d : Device I) (rig : Rig) (run : List I → Registers → B) : Type 0 where
+  pub loads : (r g : ℕ) (is : List I) (R : Registers) → run (d .loads r g ∷ is) R ≡ run is (put R r (rig g))
+  pub operates : (o : Operator) (f : Bool) (p q : ℕ) (is : List I) (R : Registers)
+      → run (d .operates o f p q ∷ is) R ≡ run is (put R (cond (d .keepsFirst f) p q) (combined (operation o) (R (cond f p q)) (R (cond f q p))))
 
-pub code-by : (P : ℕ → Tree → List Instruction → Type 0)
-    → ((k g : ℕ) (h : T (isGroup g)) → P k (leaf g h) (load k g ∷ []))
-    → ((k : ℕ) (o : Operator) (l r : Tree) (x y : List Instruction) → P k (first l r) x → P (k + 1) (second l r) y → P k (node o l r) (x ++ (y ++ (combine k o (leftFirst l r) ∷ []))))
-    → (t : Tree) (k : ℕ) → P k t (code t k)
-unfolding code
-code-by P a b t k = in-order-by (λ r g. load r g ∷ []) (λ r o f x y. x ++ (y ++ (combine r o f ∷ []))) P a b k t
+pub cond-by : {A : Type 0} (P : A → Type 0) (f : Bool) (x y : A) → P x → P y → P (cond f x y)
+cond-by P true x y p q = p
+cond-by P false x y p q = q
 
--- ---- length
+-- the nodes of a tree, by the order of its children
 pub size-node : (o : Operator) (l r : Tree) → size (node o l r) ≡ size (first l r) + size (second l r) + 1
 unfolding size
 size-node o l r = go (leftFirst l r)
@@ -45,138 +52,175 @@ size-node o l r = go (leftFirst l r)
     go true = refl
     go false = omega arith
 
-pub length-code : (t : Tree) (k : ℕ) → length (code t k) ≡ size t
-length-code =
-    code-by (λ k t is. length is ≡ size t) (λ k g h. unfold size in refl)
-    (λ k o l r x y p q. simp length-append (omega (arith, size-node o l r)))
+module _ {I : Type 0} (d : Device I) where
+  -- ---- one induction
+  pub part-leaf : (w : List Bool) (g : ℕ) (h : T (isGroup g)) → partCode d w (leaf g h) ≡ leafCode d w g
+  unfolding partCode inOrder
+  part-leaf w g h = refl
 
-pub length-numbers : (t : Tree) (k : ℕ) → length (numbersOf (code t k)) ≡ 4 * size t
-length-numbers t k = numbers-length (code t k) ∙ ap (λ (n : ℕ). 4 * n) (length-code t k)
+  pub part-node : (w : List Bool) (o : Operator) (l r : Tree) → partCode d w (node o l r)
+      ≡ nodeCode d w o (leftFirst l r) (partCode d w (first l r)) (partCode d (alsoIn w (partCode d w (first l r) .register)) (second l r))
+  unfolding partCode
+  part-node w o l r = in-order-node (leafCode d) (nodeCode d) (λ w x. alsoIn w (x .register)) w o l r
+
+  pub part-by : (P : List Bool → Tree → PartCode I → Type 0)
+      → ((w : List Bool) (g : ℕ) (h : T (isGroup g)) → P w (leaf g h) (leafCode d w g))
+      → ((w : List Bool) (o : Operator) (l r : Tree) (x y : PartCode I) → P w (first l r) x → P (alsoIn w (x .register)) (second l r) y → P w (node o l r) (nodeCode d w o (leftFirst l r) x y))
+      → (w : List Bool) (t : Tree) → P w t (partCode d w t)
+  unfolding partCode
+  part-by P a b w t = in-order-by (leafCode d) (nodeCode d) (λ w x. alsoIn w (x .register)) P a b w t
+
+  -- ---- it is by where operands wait, whichever list says so
+  pub part-alike : (w : List Bool) (t : Tree) (v : List Bool) → Alike w v → partCode d w t ≡ partCode d v t
+  part-alike =
+      part-by (λ w t x. (v : List Bool) → Alike w v → x ≡ partCode d v t)
+      (λ w g h v e. rw (part-leaf v g h, lowest-alike w v e))
+      (λ w o l r x y p q v e.
+      rw (part-node v o l r, ← (p v e), ← (q (alsoIn v (x .register)) (also-alike w v (x .register) e))))
+
+  -- ---- one instruction for each node
+  pub length-part : (w : List Bool) (t : Tree) → length (partCode d w t .own) ≡ size t
+  length-part =
+      part-by (λ w t x. length (x .own) ≡ size t) (λ w g h. unfold size in refl)
+      (λ w o l r x y p q. simp length-append (omega (arith, size-node o l r)))
+
+-- ---- the law of need: while operands wait where w says, a part's code names registers where none waits, and so many as wait and the
+-- part's need are enough
+pub record Free (w : List Bool) (high register : ℕ) : Type 0 where
+  pub outside : waits w register ≡ false
+  pub below : register < high
+
+module _ {I : Type 0} (d : Device I) (effect : I → Effect) (acts : Acts d effect) where
+  pub record Named (w : List Bool) (t : Tree) (x : PartCode I) : Type 0 where
+    pub names : Every (Names effect (Free w (waiting w + need t))) (x .own)
+    pub register : Free w (waiting w + need t) (x .register)
+
+  pub names-imply : {P Q : ℕ → Type 0} → ((q : ℕ) → P q → Q q) → (i : I) → Names effect P i → Names effect Q i
+  names-imply f i p = (every-implies f _ (p .0), every-implies f _ (p .1))
+
+  load-names : (P : ℕ → Type 0) (r g : ℕ) → P r → Every (Names effect P) (d .loads r g ∷ [])
+  unfolding Every
+  load-names P r g p = rw (acts .loads r g) ((tt, (p, tt)), tt)
+
+  operate-names : (P : ℕ → Type 0) (o : Operator) (f : Bool) (p q : ℕ) → P p → P q → Every (Names effect P) (d .operates o f p q ∷ [])
+  unfolding Every
+  operate-names P o f p q a b =
+      rw (acts .operates o f p q) (((cond-by P f p q a b, (cond-by P f q p b a, tt)), (cond-by P (d .keepsFirst f) p q a b, tt)), tt)
+
+  named-node : (w : List Bool) (o : Operator) (l r : Tree) (x y : PartCode I) → Named w (first l r) x → Named (alsoIn w (x .register)) (second l r) y
+      → Named w (node o l r) (nodeCode d w o (leftFirst l r) x y)
+  named-node w o l r x y p q = record {
+    names =
+        every-append (Names effect P) (x .own) _ (every-implies (names-imply one) (x .own) (p .names))
+        (every-append (Names effect P) (y .own) _ (every-implies (names-imply two) (y .own) (q .names))
+        (operate-names P o (leftFirst l r) (x .register) (y .register) (one _ (p .register)) (two _ (q .register))));
+    register = cond-by P (d .keepsFirst (leftFirst l r)) (x .register) (y .register) (one _ (p .register)) (two _ (q .register));
+  }
+    where
+      P : ℕ → Type 0
+      P = Free w (waiting w + need (node o l r))
+
+      one : (n : ℕ) → Free w (waiting w + need (first l r)) n → P n
+      one n e = record { outside = e .outside; below = omega (arith, e .below, need-node o l r) }
+
+      two : (n : ℕ) → Free (alsoIn w (x .register)) (waiting (alsoIn w (x .register)) + need (second l r)) n → P n
+      two n e = record { outside = also-free w (x .register) n (e .outside) .1; below = omega (arith, e .below, need-node o l r, also-waiting w (x .register)) }
+
+  pub named : (w : List Bool) (t : Tree) → Named w t (partCode d w t)
+  named =
+      part-by d Named
+      (λ w g h.
+      let e : Free w (waiting w + need (leaf g h)) (lowest w) = unfold need in record { outside = lowest-free w; below = omega (arith, lowest-most w) } in
+      record { names = load-names (Free w (waiting w + need (leaf g h))) (lowest w) g e; register = e })
+      named-node
+
+  -- ---- the groups that are loaded
+  load-loads : (m : ℕ → Bool) (r g : ℕ) → m g ≡ true → Every (Loads effect m) (d .loads r g ∷ [])
+  unfolding Every
+  load-loads m r g p = rw (acts .loads r g) ((p, tt), tt)
+
+  pub operate-loads : (m : ℕ → Bool) (o : Operator) (f : Bool) (p q : ℕ) → Loads effect m (d .operates o f p q)
+  unfolding Every
+  operate-loads m o f p q = rw (acts .operates o f p q) tt
+
+  pub loads : (m : ℕ → Bool) (w : List Bool) (t : Tree) → Over m t → Every (Loads effect m) (partCode d w t .own)
+  loads m =
+      part-by d (λ w t x. Over m t → Every (Loads effect m) (x .own))
+      (λ w g h o. unfold Over in load-loads m (lowest w) g o)
+      (λ w o l r x y p q h. unfold Over Every in
+      every-append (Loads effect m) (x .own) _ (p (cond-by (Over m) (leftFirst l r) l r (h .0) (h .1)))
+      (every-append (Loads effect m) (y .own) _ (q (cond-by (Over m) (leftFirst l r) r l (h .1) (h .0))) (operate-loads m o (leftFirst l r) (x .register) (y .register), tt)))
 
 -- ---- what a run leaves
--- whatever the registers are, afterwards the target holds what the tree selects, and those below are as they were
-pub record Leaves (rig : Rig) (t : Tree) (k : ℕ) (is : List Instruction) : Type 0 where
-  pub target : (R : Registers) → run rig is R k ≡ selected rig t
-  pub below : (R : Registers) (q : ℕ) → q < k → run rig is R q ≡ R q
-
 -- what an operator's operation makes of two sets is what the operator selects of them
 operation-applies : (o : Operator) (f g : Lamps) → combined (operation o) f g ≡ (λ lamp. apply o (f lamp) (g lamp))
 operation-applies union f g = refl
 operation-applies difference f g = refl
 operation-applies intersection f g = refl
 
-module _ (rig : Rig) where
-  operation-target : (o : Operator) (R : Registers) (k a b : ℕ) (f g : Lamps) → R a ≡ f → R b ≡ g
-      → run rig (operate (operation o) k a b ∷ []) R k ≡ (λ lamp. apply o (f lamp) (g lamp))
-  unfolding run
-  operation-target o R k a b f g x y = rw (eq-eqb k k refl, x, y) (operation-applies o f g)
+put-there : (R : Registers) (r : ℕ) (f : Lamps) → put R r f r ≡ f
+put-there R r f = rw (eq-eqb r r refl)
 
-  operation-below : (o : Operator) (R : Registers) (k a b q : ℕ) → q < k → run rig (operate (operation o) k a b ∷ []) R q ≡ R q
-  unfolding run
-  operation-below o R k a b q h = rw (ne-eqb q k (λ e. omega arith))
+put-other : (R : Registers) (r q : ℕ) (f : Lamps) → (q ≡ r → ⊥) → put R r f q ≡ R q
+put-other R r q f n = rw (ne-eqb q r n)
 
-  left-operand : (f : Bool) (l r : Tree) (R : Registers) (k : ℕ) → R k ≡ selected rig (cond f l r) → R (k + 1) ≡ selected rig (cond f r l) → R (cond f k (k + 1)) ≡ selected rig l
-  left-operand true l r R k p q = p
-  left-operand false l r R k p q = q
+module _ {I B : Type 0} (d : Device I) (rig : Rig) (run : List I → Registers → B) (runs : Runs d rig run) where
+  -- whatever the registers are, afterwards the part's register holds what the part selects, and those where operands waited are as they were
+  pub record Leaves (w : List Bool) (t : Tree) (x : PartCode I) : Type 0 where
+    pub after : Registers → Registers
+    pub ran : (rest : List I) (R : Registers) → run (x .own ++ rest) R ≡ run rest (after R)
+    pub answer : (R : Registers) → after R (x .register) ≡ selected rig t
+    pub kept : (R : Registers) (q : ℕ) → waits w q ≡ true → after R q ≡ R q
+    pub free : waits w (x .register) ≡ false
 
-  right-operand : (f : Bool) (l r : Tree) (R : Registers) (k : ℕ) → R k ≡ selected rig (cond f l r) → R (k + 1) ≡ selected rig (cond f r l) → R (cond f (k + 1) k) ≡ selected rig r
-  right-operand true l r R k p q = q
-  right-operand false l r R k p q = p
-
-  run-three : (x y z : List Instruction) (R : Registers) → run rig (x ++ (y ++ z)) R ≡ run rig z (run rig y (run rig x R))
-  run-three x y z R = run-append rig x (y ++ z) R ∙ run-append rig y z (run rig x R)
-
-  leaves-node : (k : ℕ) (o : Operator) (l r : Tree) (x y : List Instruction) → Leaves rig (first l r) k x → Leaves rig (second l r) (k + 1) y
-      → Leaves rig (node o l r) k (x ++ (y ++ (combine k o (leftFirst l r) ∷ [])))
-  unfolding selects
-  leaves-node k o l r x y p q = record {
-    target = λ R.
-        let S : Registers = run rig y (run rig x R) in
-        let u : S k ≡ selected rig (first l r) = q .below (run rig x R) k (omega arith) ∙ p .target R in
-        let v : S (k + 1) ≡ selected rig (second l r) = q .target (run rig x R) in
-        run-three-at R k
-        ∙ operation-target o S k _ _ (selected rig l) (selected rig r) (left-operand (leftFirst l r) l r S k u v) (right-operand (leftFirst l r) l r S k u v);
-    below = λ R n h. run-three-at R n ∙ operation-below o (run rig y (run rig x R)) k _ _ n h ∙ q .below (run rig x R) n (omega arith) ∙ p .below R n h;
+  leaves-node : (w : List Bool) (o : Operator) (l r : Tree) (x y : PartCode I) → Leaves w (first l r) x → Leaves (alsoIn w (x .register)) (second l r) y
+      → Leaves w (node o l r) (nodeCode d w o (leftFirst l r) x y)
+  leaves-node w o l r x y p q = record {
+    after = λ R. put (S R) target (made R);
+    ran = λ rest R.
+        ap (λ (is : List I). run is R) (regroup rest)
+        ∙ p .ran _ R
+        ∙ q .ran _ (p .after R)
+        ∙ runs .operates o (leftFirst l r) (x .register) (y .register) rest (S R);
+    answer = λ R.
+        put-there (S R) target (made R)
+        ∙ operation-applies o (S R (cond (leftFirst l r) (x .register) (y .register))) (S R (cond (leftFirst l r) (y .register) (x .register)))
+        ∙ both-operands (leftFirst l r) (S R) (q .kept (p .after R) (x .register) (also-there w (x .register)) ∙ p .answer R) (q .answer (p .after R));
+    kept = λ R n e.
+        put-other (S R) target n (made R) (λ z. false≢true (sym target-free ∙ ap (waits w) (sym z) ∙ e))
+        ∙ q .kept (p .after R) n (also-still w (x .register) n e)
+        ∙ p .kept R n e;
+    free = target-free;
   }
     where
-      run-three-at : (R : Registers) (n : ℕ) → run rig (x ++ (y ++ (combine k o (leftFirst l r) ∷ []))) R n ≡ run rig (combine k o (leftFirst l r) ∷ []) (run rig y (run rig x R)) n
-      run-three-at R n = ap (λ (S : Registers). S n) (run-three x y (combine k o (leftFirst l r) ∷ []) R)
+      S : Registers → Registers
+      S R = q .after (p .after R)
 
-  pub leaves : (t : Tree) (k : ℕ) → Leaves rig t k (code t k)
+      target : ℕ
+      target = cond (d .keepsFirst (leftFirst l r)) (x .register) (y .register)
+
+      made : Registers → Lamps
+      made R = combined (operation o) (S R (cond (leftFirst l r) (x .register) (y .register))) (S R (cond (leftFirst l r) (y .register) (x .register)))
+
+      target-free : waits w target ≡ false
+      target-free = cond-by (λ (n : ℕ). waits w n ≡ false) (d .keepsFirst (leftFirst l r)) (x .register) (y .register) (p .free) (also-free w (x .register) (y .register) (q .free) .1)
+
+      regroup : (rest : List I) → nodeCode d w o (leftFirst l r) x y .own ++ rest ≡ x .own ++ (y .own ++ (d .operates o (leftFirst l r) (x .register) (y .register) ∷ rest))
+      regroup rest = simp append-assoc
+
+      both-operands : (f : Bool) (R : Registers) → R (x .register) ≡ selected rig (cond f l r) → R (y .register) ≡ selected rig (cond f r l)
+          → (λ lamp. apply o (R (cond f (x .register) (y .register)) lamp) (R (cond f (y .register) (x .register)) lamp)) ≡ selected rig (node o l r)
+      both-operands true R a b = unfold selects in rw (a, b)
+      both-operands false R a b = unfold selects in rw (a, b)
+
+  pub leaves : (w : List Bool) (t : Tree) → Leaves w t (partCode d w t)
   leaves =
-      code-by (λ k t is. Leaves rig t k is)
-      (λ k g h. record { target = λ R. unfold run selects in rw (eq-eqb k k refl); below = λ R q lt. unfold run in rw (ne-eqb q k (λ e. omega arith)) })
+      part-by d Leaves
+      (λ w g h. record {
+        after = λ R. put R (lowest w) (rig g);
+        ran = λ rest R. runs .loads (lowest w) g rest R;
+        answer = λ R. unfold selects in put-there R (lowest w) (rig g);
+        kept = λ R n e. put-other R (lowest w) n (rig g) (λ z. false≢true (sym (lowest-free w) ∙ ap (waits w) (sym z) ∙ e));
+        free = lowest-free w;
+      })
       leaves-node
-
--- ---- the registers that are named
-pub every-append : (P : Instruction → Type 0) (xs ys : List Instruction) → Every P xs → Every P ys → Every P (xs ++ ys)
-unfolding Every
-every-append P [] ys p q = q
-every-append P (x ∷ xs) ys p q = (p .0, every-append P xs ys (p .1) q)
-
-pub every-implies : {P Q : Instruction → Type 0} → ((i : Instruction) → P i → Q i) → (is : List Instruction) → Every P is → Every Q is
-unfolding Every
-every-implies f [] p = tt
-every-implies f (i ∷ is) p = (f i (p .0), every-implies f is (p .1))
-
-module _ (low low′ high high′ : ℕ) (p : low ≤ low′) (q : high′ ≤ high) where
-  wider-one : (n : ℕ) → Within low′ high′ n → Within low high n
-  wider-one n w = record { from = omega (arith, w .from); below = omega (arith, w .below) }
-
-  pub wider : (i : Instruction) → Names low′ high′ i → Names low high i
-  wider (load t g) h = wider-one t h
-  wider (operate o t a b) h = (wider-one t (h .0), wider-one a (h .1), wider-one b (h .2))
-
-within-cond : (f : Bool) (low high a b : ℕ) → Within low high a → Within low high b → Within low high (cond f a b)
-within-cond true low high a b p q = p
-within-cond false low high a b p q = q
-
-pub names-waiting : (t : Tree) (k : ℕ) → Every (Names k (mostWaiting k t)) (code t k)
-names-waiting =
-    code-by (λ k t is. Every (Names k (mostWaiting k t)) is)
-    (λ k g h. unfold Every inOrder in (record { from = omega arith; below = omega arith }, tt))
-    (λ k o l r x y p q.
-    let N : ℕ = mostWaiting k (node o l r) in
-    let w = waiting-node k o l r in
-    let n₁ : k + 1 < N = omega (arith, waiting-need (k + 1) (second l r), need-positive (second l r)) in
-    let here : Within k N k = record { from = omega arith; below = omega arith } in
-    let next : Within k N (k + 1) = record { from = omega arith; below = n₁ } in
-    every-append (Names k N) x _ (every-implies (wider k k N (mostWaiting k (first l r)) (omega arith) (omega arith)) x p)
-    (every-append (Names k N) y (combine k o (leftFirst l r) ∷ []) (every-implies (wider k (k + 1) N (mostWaiting (k + 1) (second l r)) (omega arith) (omega arith)) y q)
-    (unfold Every in ((here, within-cond (leftFirst l r) k N k (k + 1) here next, within-cond (leftFirst l r) k N (k + 1) k next here), tt))))
-
--- ---- the groups that are loaded
-over-cond : (m : ℕ → Bool) (f : Bool) (l r : Tree) → Over m l → Over m r → Over m (cond f l r)
-over-cond m true l r p q = p
-over-cond m false l r p q = q
-
-pub loads : (m : ℕ → Bool) (t : Tree) (k : ℕ) → Over m t → Every (Loads m) (code t k)
-loads m =
-    code-by (λ k t is. Over m t → Every (Loads m) is)
-    (λ k g h o. unfold Every Over in (o, tt))
-    (λ k o l r x y p q h. unfold Over Every in
-    every-append (Loads m) x _ (p (over-cond m (leftFirst l r) l r (h .0) (h .1)))
-    (every-append (Loads m) y _ (q (over-cond m (leftFirst l r) r l (h .1) (h .0))) (tt, tt)))
-
--- ---- request 6: the code of a tree without `I` has no BOTH
-abbrev pub NotBoth : Instruction → Type 0
-NotBoth (load target group) = Unit {0}
-NotBoth (operate o target s t) = o ≡ both → ⊥
-
-operands-without : (o : Operator) (l r : Tree) → WithoutIntersection (node o l r) → (operation o ≡ both → ⊥) × WithoutIntersection l × WithoutIntersection r
-unfolding WithoutIntersection
-operands-without union l r w = (λ e. let z : _≡_ {A = ℕ} 0 1 = cc in omega arith, w .0, w .1)
-operands-without difference l r w = (λ e. let z : _≡_ {A = ℕ} 0 1 = cc in omega arith, w .0, w .1)
-operands-without intersection l r w = absurd w
-
-without-cond : (f : Bool) (l r : Tree) → WithoutIntersection l → WithoutIntersection r → WithoutIntersection (cond f l r)
-without-cond true l r p q = p
-without-cond false l r p q = q
-
-pub without-both : (t : Tree) (k : ℕ) → WithoutIntersection t → Every NotBoth (code t k)
-without-both =
-    code-by (λ k t is. WithoutIntersection t → Every NotBoth is)
-    (λ k g h w. unfold Every in (tt, tt))
-    (λ k o l r x y p q w. let v = operands-without o l r w in
-    every-append NotBoth x _ (p (without-cond (leftFirst l r) l r (v .1) (v .2)))
-    (every-append NotBoth y (combine k o (leftFirst l r) ∷ []) (q (without-cond (leftFirst l r) r l (v .2) (v .1))) (unfold Every in (v .0, tt))))

@@ -1,5 +1,5 @@
--- Laws of need and of the order of nodes, for the coder of any device: one induction over the order; need is the number of
--- operands that wait at once at most; 2 to the power need is at most the tree's nodes plus 1.
+-- Laws of need and of the order of nodes, for any device: one induction over the order; 2 to the power need is at most the tree's nodes
+-- plus 1.
 use mathlib.Core.Path.{_≡_, refl}
 use mathlib.Core.Bool.{Bool, true, false, cond}
 use Prim.Native.Nat.{ℕ, _+_, _^_, _≤_, _<_, max}
@@ -19,30 +19,34 @@ abbrev pub second : Tree → Tree → Tree
 second l r = cond (leftFirst l r) r l
 
 -- ---- the order of nodes
-module _ {A : Type 0} (atLeaf : ℕ → ℕ → A) (atNode : ℕ → Operator → Bool → A → A → A) where
-  pub in-order-node : (k : ℕ) (o : Operator) (l r : Tree) → inOrder atLeaf atNode k (node o l r)
-      ≡ atNode k o (leftFirst l r) (inOrder atLeaf atNode k (first l r)) (inOrder atLeaf atNode (k + 1) (second l r))
+module _ {S A : Type 0} (atLeaf : S → ℕ → A) (atNode : S → Operator → Bool → A → A → A) (leaves : S → A → S) where
+  abbrev value : S → Tree → A
+  value s t = inOrder atLeaf atNode leaves s t
+
+  pub in-order-node : (s : S) (o : Operator) (l r : Tree) → value s (node o l r)
+      ≡ atNode s o (leftFirst l r) (value s (first l r)) (value (leaves s (value s (first l r))) (second l r))
   unfolding inOrder
-  in-order-node k o l r = go (leftFirst l r)
+  in-order-node s o l r = go (leftFirst l r)
     where
-      go : (f : Bool) → cond f (atNode k o true (inOrder atLeaf atNode k l) (inOrder atLeaf atNode (k + 1) r)) (atNode k o false (inOrder atLeaf atNode k r) (inOrder atLeaf atNode (k + 1) l))
-          ≡ atNode k o f (inOrder atLeaf atNode k (cond f l r)) (inOrder atLeaf atNode (k + 1) (cond f r l))
+      go : (f : Bool) → cond f (atNode s o true (value s l) (value (leaves s (value s l)) r)) (atNode s o false (value s r) (value (leaves s (value s r)) l))
+          ≡ atNode s o f (value s (cond f l r)) (value (leaves s (value s (cond f l r))) (cond f r l))
       go true = refl
       go false = refl
 
   -- what holds of every leaf's value, and of a node's if of its children's, holds of every tree's
-  module _ (P : ℕ → Tree → A → Type 0)
-      (on-leaf : (k g : ℕ) (h : T (isGroup g)) → P k (leaf g h) (atLeaf k g))
-      (on-node : (k : ℕ) (o : Operator) (l r : Tree) (x y : A) → P k (first l r) x → P (k + 1) (second l r) y → P k (node o l r) (atNode k o (leftFirst l r) x y)) where
-    either : (f : Bool) (k : ℕ) (l r : Tree) → P k l (inOrder atLeaf atNode k l) → P k r (inOrder atLeaf atNode k r) → P k (cond f l r) (inOrder atLeaf atNode k (cond f l r))
-    either true k l r p q = p
-    either false k l r p q = q
+  module _ (P : S → Tree → A → Type 0)
+      (on-leaf : (s : S) (g : ℕ) (h : T (isGroup g)) → P s (leaf g h) (atLeaf s g))
+      (on-node : (s : S) (o : Operator) (l r : Tree) (x y : A) → P s (first l r) x → P (leaves s x) (second l r) y → P s (node o l r) (atNode s o (leftFirst l r) x y)) where
+    either : (f : Bool) (s : S) (l r : Tree) → P s l (value s l) → P s r (value s r) → P s (cond f l r) (value s (cond f l r))
+    either true s l r p q = p
+    either false s l r p q = q
 
-    pub in-order-by : (k : ℕ) (t : Tree) → P k t (inOrder atLeaf atNode k t)
-    in-order-by k (leaf g h) = unfold inOrder in on-leaf k g h
-    in-order-by k (node o l r) =
-        rw (in-order-node k o l r)
-        (on-node k o l r _ _ (either (leftFirst l r) k l r (in-order-by k l) (in-order-by k r)) (either (leftFirst l r) (k + 1) r l (in-order-by (k + 1) r) (in-order-by (k + 1) l)))
+    pub in-order-by : (s : S) (t : Tree) → P s t (value s t)
+    in-order-by s (leaf g h) = unfold inOrder in on-leaf s g h
+    in-order-by s (node o l r) =
+        let u : S = leaves s (value s (first l r)) in
+        rw (in-order-node s o l r)
+        (on-node s o l r _ _ (either (leftFirst l r) s l r (in-order-by s l) (in-order-by s r)) (either (leftFirst l r) u r l (in-order-by u r) (in-order-by u l)))
 
 -- ---- need
 need-by : (P : ℕ → Type 0) (a b : ℕ) → (a ≡ b → P (a + 1)) → ((a ≡ b → ⊥) → P (max a b)) → P (needOf a b)
@@ -58,30 +62,12 @@ unfolding need
 need-node o l r = go (leftFirst l r) refl
   where
     go : (f : Bool) → leftFirst l r ≡ f → needOf (need l) (need r) ≡ max (need (cond f l r)) (need (cond f r l) + 1)
-    go true e =
-        let h = leb-true (need r) (need l) e in
-        need-by (λ n. n ≡ max (need l) (need r + 1)) (need l) (need r) (λ e. omega arith) (λ e. omega arith)
-    go false e =
-        let h = leb-false (need r) (need l) e in
-        need-by (λ n. n ≡ max (need r) (need l + 1)) (need l) (need r) (λ e. omega arith) (λ e. omega arith)
+    go true e = need-by (λ n. n ≡ max (need l) (need r + 1)) (need l) (need r) (λ q. omega (arith, leb-true)) (λ q. omega (arith, leb-true))
+    go false e = need-by (λ n. n ≡ max (need r) (need l + 1)) (need l) (need r) (λ q. omega (arith, leb-false)) (λ q. omega (arith, leb-false))
 
 pub need-positive : (t : Tree) → 0 < need t
 need-positive (leaf g h) = unfold need in omega arith
 need-positive (node o l r) = omega (arith, need-node o l r)
-
--- how many operands wait at once at most, while the nodes of a tree come in this order and k wait already
-abbrev pub mostWaiting : ℕ → Tree → ℕ
-mostWaiting k t = inOrder (λ k g. k + 1) (λ k o f x y. max x y) k t
-
--- need says how many
-pub waiting-need : (k : ℕ) (t : Tree) → mostWaiting k t ≡ k + need t
-waiting-need =
-    in-order-by (λ k g. k + 1) (λ k o f x y. max x y) (λ k t x. x ≡ k + need t)
-    (λ k g h. unfold need in refl)
-    (λ k o l r x y p q. omega (arith, need-node o l r))
-
-pub waiting-node : (k : ℕ) (o : Operator) (l r : Tree) → mostWaiting k (node o l r) ≡ max (mostWaiting k (first l r)) (mostWaiting (k + 1) (second l r))
-waiting-node = in-order-node (λ k g. k + 1) (λ k o f x y. max x y)
 
 pow-max : (a b m : ℕ) → 2 ^ a ≤ m → 2 ^ b ≤ m → 2 ^ max a b ≤ m
 pow-max a b m p q = go (leb a b) refl

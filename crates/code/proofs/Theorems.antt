@@ -1,129 +1,125 @@
--- The theorems about the code of a tree: what running it leaves, the registers that it names, its length, the closed run of
--- any of its nodes, and what the player makes of it. Their proofs are by the inductions in CodeLaws and RunLaws.
+-- The theorems about the code of a tree for any device; NewerLaws has what they are for 01's player.
 use mathlib.Core.Path.{_≡_, refl, sym, ap, _∙_}
-use mathlib.Core.Bool.{Bool, true, false, not, cond, false≢true}
-use mathlib.Core.List.{List, [], _∷_, _++_, append-assoc}
+use mathlib.Core.Bool.{Bool, true, false, not, false≢true}
+use mathlib.Core.List.{List, [], _++_, append-assoc}
 use Prim.Native.Nat.{ℕ, _+_, _-_, _≤_, _<_}
 use native.Mathlib.Omega.{arith}
-use borrow.Author.Tests.{leb-true, leb-false, le-ltb}
-use lib.Dec.{leb, ltb}
 use lib.ListN.{length, take, drop, length-append}
 use lib.Seq.{take-at, drop-at}
-use Rattle.tree.specs.Tree.{Tree, isGroup, size, Rig, selected, mostNodes, Over}
+use Rattle.tree.specs.Tree.{Tree, size, Rig, selected, mostNodes, Over}
 use Rattle.tree.specs.Context.{Frame, plug, OverAbove}
-use Rattle.tree.proofs.TreeLaws.{size-positive, group-least, group-most}
-use Rattle.tree.proofs.GroupLaws.{over-is-group}
-use Rattle.player.specs.Limits.{registerCount, byteCount}
-use Rattle.player.specs.Instructions.{Registers, Instruction, load, operate, run, litLamps, instructions}
-use Rattle.player.proofs.InstructionLaws.{AllWellFormed, instructions-numbers}
-use Rattle.player.proofs.PlayingLaws.{numbers-fault, plays-done}
-use Rattle.player.specs.Patches.{rig}
-use Rattle.player.specs.Bytes.{bytes}
-use Rattle.player.specs.Playing.{wrongPairCount, wrongPatch, playFault, Plays}
-use Rattle.player.specs.declared.Played.{Played}
-use Rattle.player.specs.declared.Played.the-variants.{Done}
+use Rattle.player.specs.Limits.{registerCount}
+use Rattle.player.specs.Instructions.{Registers}
 use Rattle.code.specs.Need.{need}
-use Rattle.code.specs.Code.{code, codePlace, ownCode, runFirst, runCount}
-use Rattle.code.proofs.CodeLaws.{codeNumbers, length-code, leaves, every-implies, wider, names-waiting, loads}
-use Rattle.code.specs.Effects.{Every, Names, Loads, writtenAfter, readFirst, noneWritten, ahead, stretch, behind, ClosedRun, LoadsApart}
-use Rattle.code.proofs.NeedLaws.{need-most, waiting-need}
-use Rattle.code.proofs.RunLaws.{closed-code, low-written, code-stands, behind-unread, loads-around}
+use Rattle.code.proofs.NeedLaws.{need-most}
+use Rattle.code.specs.Devices.{Device, PartCode, partCode, codeOn}
+use Rattle.code.specs.Acts.{Acts}
+use Rattle.code.specs.Effects.{Effect, Every, Names, Loads, writtenAfter, readFirst, noneWritten, ahead, stretch, behind, ClosedRun, LoadsApart}
+use Rattle.code.specs.Runs.{runFirst, runCount}
+use Rattle.code.specs.InnerWaiting.{waiting}
+use Rattle.code.proofs.CodeLaws.{every-append, every-implies, Runs, Free, named, names-imply, loads, length-part, leaves}
+use Rattle.code.proofs.RunLaws.{written-named, CodePlace, codePlace, code-stands, before-length, closed-code, behind-unread, loads-around}
 
--- ---- 1. Running the code of a tree, by the player's own definition, from any registers leaves in the target exactly what
--- the tree selects in the rig, and every register below the target as it was.
-pub code-selects : (rig : Rig) (t : Tree) (r : ℕ) (R : Registers) → run rig (code t r) R r ≡ selected rig t
-code-selects rig t r R = leaves rig t r .target R
+-- ---- 1. Running the code of a tree leaves in the root's register what the tree selects: then comes what ends the code.
+module _ {I B : Type 0} (d : Device I) (rig : Rig) (run : List I → Registers → B) (runs : Runs d rig run) where
+  pub record Answers (t : Tree) (R : Registers) : Type 0 where
+    pub after : Registers
+    pub ran : run (codeOn d t) R ≡ run (d .ends (partCode d [] t .register)) after
+    pub answer : after (partCode d [] t .register) ≡ selected rig t
 
-pub code-keeps : (rig : Rig) (t : Tree) (r : ℕ) (R : Registers) (q : ℕ) → q < r → run rig (code t r) R q ≡ R q
-code-keeps rig t r R q h = leaves rig t r .below R q h
+  pub code-answers : (t : Tree) (R : Registers) → Answers t R
+  code-answers t R =
+      let u = leaves d rig run runs [] t in
+      record { after = u .after R; ran = u .ran (d .ends (partCode d [] t .register)) R; answer = u .answer R }
 
--- ---- 2. The registers that the code of a tree with target r names are from r on and below r + need; 2 to the power need is
--- at most the tree's nodes plus 1 (NeedLaws `need-power`); so for at most 8,191 nodes no register above 12 is named.
-pub code-names : (t : Tree) (r : ℕ) → Every (Names r (r + need t)) (code t r)
-code-names t r = rw (waiting-need r t) at (names-waiting t r)
+-- "its own instructions, unbroken": the part's code, with operands waiting in some registers; it "hands on one" register, the part's
+pub record OwnRun {I : Type 0} (d : Device I) (effect : I → Effect) (h : Tree) (is : List I) (first count : ℕ) : Type 0 where
+  pub waiting : List Bool
+  pub unbroken : stretch is first count ≡ partCode d waiting h .own
+  pub closed : ClosedRun effect is first count (partCode d waiting h .register)
 
-pub thirteen-suffice : (t : Tree) → size t ≤ mostNodes → Every (Names 0 registerCount) (code t 0)
-thirteen-suffice t h =
-    every-implies (wider 0 0 registerCount (0 + need t) (omega arith) (omega (arith, need-most t h))) (code t 0) (code-names t 0)
+module _ {I : Type 0} (d : Device I) (effect : I → Effect) (acts : Acts d effect) where
+  -- ---- 2. No register from the tree's need on is named; so for at most 8,191 nodes none above 12.
+  pub code-names : (t : Tree) → Every (Names effect (λ q. q < need t)) (codeOn d t)
+  code-names t =
+      let u = named d effect acts [] t in
+      let below : (q : ℕ) → Free [] (waiting [] + need t) q → q < need t = λ q e. unfold waiting in omega (arith, e .below) in
+      every-append (Names effect (λ q. q < need t)) (partCode d [] t .own) _
+      (every-implies (names-imply d effect acts below) (partCode d [] t .own) (u .names))
+      (acts .end-names (need t) (partCode d [] t .register) (below _ (u .register)))
 
--- every leaf's number is a group, so every instruction is one that the player takes
-well-formed-all : (is : List Instruction) → Every (Names 0 registerCount) is → Every (Loads isGroup) is → AllWellFormed is
-unfolding Every AllWellFormed
-well-formed-all [] p q = tt
-well-formed-all (load k g ∷ is) p q = ((p .0 .below, group-least g (rw (q .0) tt), group-most g (rw (q .0) tt)), well-formed-all is (p .1) (q .1))
-well-formed-all (operate o k a b ∷ is) p q = ((p .0 .0 .below, p .0 .1 .below, p .0 .2 .below), well-formed-all is (p .1) (q .1))
+  pub thirteen-suffice : (t : Tree) → size t ≤ mostNodes → Every (Names effect (λ q. q < registerCount)) (codeOn d t)
+  thirteen-suffice t h = every-implies (names-imply d effect acts (λ q e. omega (arith, need-most t h))) (codeOn d t) (code-names t)
 
-pub code-well-formed : (t : Tree) → size t ≤ mostNodes → AllWellFormed (code t 0)
-code-well-formed t h = well-formed-all (code t 0) (thirteen-suffice t h) (loads isGroup t 0 (over-is-group t))
+  pub loads-all : (m : ℕ → Bool) (t : Tree) → Over m t → Every (Loads effect m) (codeOn d t)
+  loads-all m t o = every-append (Loads effect m) (partCode d [] t .own) _ (loads d effect acts m [] t o) (acts .end-loads m _)
 
--- ---- 3. One instruction per node.
-pub code-length : (t : Tree) (r : ℕ) → length (code t r) ≡ size t
-code-length = length-code
+  -- ---- 3. One instruction for each node, and what ends the code.
+  pub code-length : (t : Tree) → length (codeOn d t) ≡ size t + length (d .ends (partCode d [] t .register))
+  code-length t = length-append (partCode d [] t .own) (d .ends (partCode d [] t .register)) ∙ omega (arith, length-part d [] t)
 
--- ---- 4. The closed run of any node of any tree: of the part h with the context c.
-module _ (h : Tree) (c : List Frame) where
-  -- the place, as the run's two numbers cut it out
-  pub is-ahead : ahead (code (plug h c) 0) (runFirst h c) ≡ codePlace h c 0 .before
-  is-ahead = ap (take (runFirst h c - 1)) (code-stands h c 0) ∙ take-at (codePlace h c 0 .before) _ (runFirst h c - 1) (omega arith)
+  -- ---- 4. The closed run of any node of any tree: of the part h with the context c.
+  module _ (h : Tree) (c : List Frame) where
+    -- the place of the root's code, and of the part's
+    abbrev pub root : CodePlace I
+    root = record { before = []; waiting = []; behind = d .ends (partCode d [] (plug h c) .register) }
 
-  from-run : drop (runFirst h c - 1) (code (plug h c) 0) ≡ ownCode h c ++ codePlace h c 0 .behind
-  from-run = ap (drop (runFirst h c - 1)) (code-stands h c 0) ∙ drop-at (codePlace h c 0 .before) _ (runFirst h c - 1) (omega arith)
+    abbrev place : CodePlace I
+    place = codePlace d root h c
 
-  -- its own instructions, unbroken, stand at that place
-  pub run-own : stretch (code (plug h c) 0) (runFirst h c) (runCount h c) ≡ ownCode h c
-  run-own = ap (take (runCount h c)) from-run ∙ take-at (ownCode h c) (codePlace h c 0 .behind) (runCount h c) refl
+    abbrev ownPart : PartCode I
+    ownPart = partCode d (place .waiting) h
 
-  pub is-behind : behind (code (plug h c) 0) (runFirst h c) (runCount h c) ≡ codePlace h c 0 .behind
-  is-behind =
-      ap (drop (runFirst h c - 1 + runCount h c)) (code-stands h c 0 ∙ sym (append-assoc (codePlace h c 0 .before) (ownCode h c) (codePlace h c 0 .behind)))
-      ∙ drop-at (codePlace h c 0 .before ++ ownCode h c) (codePlace h c 0 .behind) (runFirst h c - 1 + runCount h c) (length-append (codePlace h c 0 .before) (ownCode h c) ∙ omega arith)
+    before-place : length (place .before) ≡ runFirst h c - 1
+    before-place = omega (arith, before-length d root refl h c)
 
-  others : (q : ℕ) → writtenAfter noneWritten (ownCode h c) q ≡ true → (q ≡ codePlace h c 0 .target → ⊥) → readFirst q (codePlace h c 0 .behind) ≡ false
-  others q w n = go (leb (codePlace h c 0 .target) q) refl
-    where
-      go : (x : Bool) → leb (codePlace h c 0 .target) q ≡ x → readFirst q (codePlace h c 0 .behind) ≡ false
-      go true e = behind-unread h c 0 q (omega (arith, leb-true (codePlace h c 0 .target) q e))
-      go false e = absurd (false≢true (sym (low-written (codePlace h c 0 .target) _ q noneWritten (ownCode h c) (leb-false (codePlace h c 0 .target) q e) (code-names h (codePlace h c 0 .target))) ∙ w))
+    from-run : drop (runFirst h c - 1) (codeOn d (plug h c)) ≡ ownPart .own ++ place .behind
+    from-run = ap (drop (runFirst h c - 1)) (code-stands d root h c) ∙ drop-at (place .before) _ (runFirst h c - 1) before-place
 
-  pub closed-run : ClosedRun (code (plug h c) 0) (runFirst h c) (runCount h c) (codePlace h c 0 .target)
-  closed-run = record {
-    inside = (omega arith, fits);
-    own = rw run-own (closed-code h (codePlace h c 0 .target) .closed noneWritten);
-    handed-on = rw run-own (closed-code h (codePlace h c 0 .target) .written noneWritten);
-    others = rw (run-own, is-behind) others;
-  }
-    where
-      fits : runFirst h c - 1 + runCount h c ≤ length (code (plug h c) 0)
-      fits =
-          rw (code-stands h c 0)
-          (omega (arith, length-append (codePlace h c 0 .before) (ownCode h c ++ codePlace h c 0 .behind), length-append (ownCode h c) (codePlace h c 0 .behind)))
+    pub is-ahead : ahead (codeOn d (plug h c)) (runFirst h c) ≡ place .before
+    is-ahead = ap (take (runFirst h c - 1)) (code-stands d root h c) ∙ take-at (place .before) _ (runFirst h c - 1) before-place
 
-  -- ---- 5. Where every leaf of the part has a group with m and no other leaf has one, the run loads only groups with m, and
-  -- no LOAD outside it loads one.
-  pub loads-apart : (m : ℕ → Bool) → Over m h → OverAbove (λ g. not (m g)) c → LoadsApart m (code (plug h c) 0) (runFirst h c) (runCount h c)
-  loads-apart m p q = record {
-    within = rw run-own (loads m h (codePlace h c 0 .target) p);
-    before = rw is-ahead (loads-around (λ g. not (m g)) h c 0 q .before);
-    after = rw is-behind (loads-around (λ g. not (m g)) h c 0 q .behind);
-  }
+    pub run-own : stretch (codeOn d (plug h c)) (runFirst h c) (runCount h c) ≡ ownPart .own
+    run-own = ap (take (runCount h c)) from-run ∙ take-at (ownPart .own) (place .behind) (runCount h c) (length-part d (place .waiting) h)
 
--- ---- What the player makes of the code of a tree within the limit: no fault 22 or 23, and the lamps lit are those that the
--- tree selects in the rig of the patch.
-module _ (t : Tree) (h : size t ≤ mostNodes) (patch lamps : List ℕ) where
-  pub code-faultless : playFault (codeNumbers t) patch lamps ≡ cond (ltb (length lamps) byteCount) 21 (cond (wrongPairCount (length patch)) 24 (cond (wrongPatch patch) 25 0))
-  code-faultless =
-      numbers-fault (code t 0) (omega (arith, size-positive t, length-code t 0)) (omega (arith, length-code t 0)) patch lamps (code-well-formed t h)
+    pub is-behind : behind (codeOn d (plug h c)) (runFirst h c) (runCount h c) ≡ place .behind
+    is-behind =
+        ap (drop (runFirst h c - 1 + runCount h c)) (code-stands d root h c ∙ sym (append-assoc (place .before) (ownPart .own) (place .behind)))
+        ∙ drop-at (place .before ++ ownPart .own) (place .behind) (runFirst h c - 1 + runCount h c) (length-append (place .before) (ownPart .own) ∙ omega (arith, before-place, length-part d (place .waiting) h))
 
-  pub code-answers : litLamps (rig patch) (instructions (codeNumbers t)) ≡ selected (rig patch) t
-  code-answers = rw (instructions-numbers (code t 0)) (code-selects (rig patch) t 0 _)
+    others : (q : ℕ) → writtenAfter effect noneWritten (ownPart .own) q ≡ true → (q ≡ ownPart .register → ⊥) → readFirst effect q (place .behind) ≡ false
+    others q e n =
+        behind-unread d effect acts root h c (record { unread = λ q free other. acts .end-reads _ q other }) .unread q
+        (written-named effect (Free (place .waiting) (waiting (place .waiting) + need h)) q noneWritten (ownPart .own) (λ z. absurd (false≢true z)) (named d effect acts (place .waiting) h .names) e .outside) n
 
-  pub record PlaysAs (r : Played) (after : List ℕ) : Type 0 where
-    pub done : r ≡ Done
-    pub lit : after ≡ bytes (selected (rig patch) t) ++ drop byteCount lamps
+    fits : runFirst h c - 1 + runCount h c ≤ length (codeOn d (plug h c))
+    fits =
+        rw (code-stands d root h c)
+        (omega (arith, length-append (place .before) (ownPart .own ++ place .behind), length-append (ownPart .own) (place .behind), before-place, length-part d (place .waiting) h))
 
-  pub code-lights : byteCount ≤ length lamps → wrongPairCount (length patch) ≡ false → wrongPatch patch ≡ false
-      → (r : Played) (after : List ℕ) → Plays (codeNumbers t) patch lamps r after → PlaysAs r after
-  code-lights long even good r after p = record {
-    done = plays-done p (code-faultless ∙ rw (le-ltb (length lamps) byteCount long, even, good));
-    lit = p .written ∙ rw (code-faultless, le-ltb (length lamps) byteCount long, even, good, code-answers);
-  }
+    pub closed-run : OwnRun d effect h (codeOn d (plug h c)) (runFirst h c) (runCount h c)
+    closed-run = record {
+      waiting = place .waiting;
+      unbroken = run-own;
+      closed = record {
+        inside = (omega arith, fits);
+        own = rw run-own (closed-code d effect acts (place .waiting) h .closed noneWritten);
+        handed-on = rw run-own (closed-code d effect acts (place .waiting) h .written noneWritten);
+        others = rw (run-own, is-behind) others;
+      };
+    }
+
+    pub run-waiting : closed-run .waiting ≡ codePlace d root h c .waiting
+    unfolding closed-run
+    run-waiting = refl
+
+    -- ---- 5. Where every leaf of the part has a group with m and no other leaf has one, the run loads only groups with m, and no LOAD
+    -- outside it loads one.
+    pub loads-apart : (m : ℕ → Bool) → Over m h → OverAbove (λ g. not (m g)) c → LoadsApart effect m (codeOn d (plug h c)) (runFirst h c) (runCount h c)
+    loads-apart m p q =
+        let u = loads-around d effect acts (λ g. not (m g)) root h c (record { before = unfold Every in tt; behind = acts .end-loads (λ g. not (m g)) _ }) q in
+        record {
+          within = rw run-own (loads d effect acts m (place .waiting) h p);
+          before = rw is-ahead (u .before);
+          after = rw is-behind (u .behind);
+        }

@@ -1,9 +1,10 @@
--- Need, and the order of nodes. 01, "The instructions". Nothing here knows an instruction: a coder for another device
--- shares this file and the laws in proofs/NeedLaws.antt.
-use mathlib.Core.Bool.{Bool, true, false, cond}
+-- Need, and the order of nodes. 01, "The instructions". Nothing here knows an instruction or a register.
+use mathlib.Core.Bool.{Bool, true, false, not, cond}
+use mathlib.Core.List.{List, [], _∷_}
 use Prim.Native.Nat.{ℕ, _+_, max}
 use lib.Dec.{eqb, leb}
-use Rattle.tree.specs.Tree.{Operator, Tree, leaf, node}
+use Rattle.tree.specs.Tree.{Operator, Tree, leaf, node, size}
+use Rattle.tree.specs.Context.{Side, left, right, Frame, frame, sided}
 
 -- "of a node with unequal children, the larger need; with equal ones, one more"
 abbrev pub needOf : ℕ → ℕ → ℕ
@@ -18,13 +19,23 @@ need (node o l r) = needOf (need l) (need r)
 abbrev pub leftFirst : Tree → Tree → Bool
 leftFirst l r = leb (need r) (need l)
 
--- The order of nodes: the first child's, the second's, the node itself. What a device makes of it is a value for each
--- node: of a leaf, by how many operands wait already and the group; of another node, by how many wait, the operator,
--- whether the left child came first, and the values of the first child and, with one operand more waiting, of the second.
-module _ {A : Type 0} (atLeaf : ℕ → ℕ → A) (atNode : ℕ → Operator → Bool → A → A → A) where
-  unfoldable pub inOrder : ℕ → Tree → A
-  inOrder k (leaf g h) = atLeaf k g
-  inOrder k (node o l r) =
+-- "the child of larger need first, left on a tie": the first child's nodes, the second's, the node itself. What a device makes of this
+-- is a value for each node: of a leaf, by the state that it comes in, and its group; of another node, by the state, the operator, whether
+-- the left child came first, and the values of the first child and of the second, which comes in the state that the first one leaves.
+module _ {S A : Type 0} (atLeaf : S → ℕ → A) (atNode : S → Operator → Bool → A → A → A) (leaves : S → A → S) where
+  unfoldable pub inOrder : S → Tree → A
+  inOrder s (leaf g h) = atLeaf s g
+  inOrder s (node o l r) =
       cond (leftFirst l r)
-      (atNode k o true (inOrder k l) (inOrder (k + 1) r))
-      (atNode k o false (inOrder k r) (inOrder (k + 1) l))
+      (atNode s o true (inOrder s l) (inOrder (leaves s (inOrder s l)) r))
+      (atNode s o false (inOrder s r) (inOrder (leaves s (inOrder s r)) l))
+
+-- whether a child on this side, h, comes before its sibling b
+abbrev pub comesFirst : Side → Tree → Tree → Bool
+comesFirst left h b = leftFirst h b
+comesFirst right h b = not (leftFirst b h)
+
+-- how many nodes of the whole tree come before those of the part h with the context c
+unfoldable pub nodesBefore : Tree → List Frame → ℕ
+nodesBefore h [] = 0
+nodesBefore h (frame s o b ∷ c) = nodesBefore (sided s (node o) h b) c + cond (comesFirst s h b) 0 (size b)

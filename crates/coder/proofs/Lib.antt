@@ -1,4 +1,3 @@
 -- The laws of the definitions in specs/, for this crate and those above it.
-pub mod NoteLaws
 pub mod WriterLaws
 pub mod CodingLaws

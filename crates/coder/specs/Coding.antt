@@ -11,8 +11,9 @@ use Rattle.tree.specs.Tree.{Tree, size}
 use Rattle.tree.specs.Context.{Place}
 use Rattle.tree.specs.Parse.{treeOf, isSome, locate}
 use Rattle.tree.specs.Writing.{over}
-use Rattle.player.specs.Instructions.{Instruction, numbersOf}
-use Rattle.code.specs.Code.{code, runFirst, runCount}
+use Rattle.player.specs.Instructions.{numbersOf}
+use Rattle.code.specs.Code.{code}
+use Rattle.code.specs.Runs.{runFirst, runCount}
 use Rattle.coder.specs.declared.Coded.{Coded}
 use Rattle.coder.specs.declared.Coded.the-variants.{Done, Refused}
 use Rattle.coder.specs.declared.Run.{Run}
@@ -21,28 +22,33 @@ use Rattle.coder.specs.declared.Run.{Run}
 abbrev pub leastBuffer : ℕ
 leastBuffer = 32764
 
--- "It refuses, buffer unchanged: 20 ..; 12": the number of the first fault, 0 where there is none
-abbrev pub encodeFault : (tree out : List ℕ) → ℕ
-encodeFault tree out = cond (ltb (length out) leastBuffer) 20 (cond (isSome (treeOf tree)) 0 12)
-
--- the code that the list asks for
-abbrev pub codeOfList : Option Tree → List Instruction
-codeOfList none = []
-codeOfList (some t) = code t 0
-
--- the buffer afterwards: done, the numbers of the code, and behind them what stood there; refused, "buffer unchanged"
-abbrev pub bufferAfter : (tree out : List ℕ) → List ℕ
-bufferAfter tree out = cond (eqb (encodeFault tree out) 0) (over (numbersOf (codeOfList (treeOf tree))) out) out
+-- the code that a list asks for, of a device whose code of a tree is `code`
+abbrev pub codeOfList : {I : Type 0} → (Tree → List I) → Option Tree → List I
+codeOfList code none = []
+codeOfList code (some t) = code t
 
 -- 01's number and value for each answer: "Coding answers the number of instructions"; or the fault's number
 abbrev pub codedSays : Coded → Answer
 codedSays (Done n) = done (n ∷ [])
 codedSays (Refused k) = refusedWith k
 
+-- "It refuses, buffer unchanged: 20 its buffer is under .. numbers; 12": the number of the first fault, 0 where there is none
+abbrev pub encodeFault : ℕ → (tree out : List ℕ) → ℕ
+encodeFault least tree out = cond (ltb (length out) least) 20 (cond (isSome (treeOf tree)) 0 12)
+
+-- the buffer afterwards: done, the numbers of the code, and behind them what stood there; refused, "buffer unchanged". Of a device: the
+-- least buffer, its code, and the numbers of its code
+abbrev pub bufferAfter : {I : Type 0} → ℕ → (Tree → List I) → (List I → List ℕ) → (tree out : List ℕ) → List ℕ
+bufferAfter least code numbers tree out = cond (eqb (encodeFault least tree out) 0) (over (numbers (codeOfList code (treeOf tree))) out) out
+
 -- What a call answers, and what the buffer is afterwards: "one per node, and writes nothing past the last"
-pub record Encodes (tree out : List ℕ) (r : Coded) (after : List ℕ) : Type 0 where
-  pub says : codedSays r ≡ answerBy (encodeFault tree out) (length (codeOfList (treeOf tree)) ∷ [])
-  pub written : after ≡ bufferAfter tree out
+pub record EncodesBy {I : Type 0} (least : ℕ) (code : Tree → List I) (numbers : List I → List ℕ) (tree out : List ℕ) (r : Coded) (after : List ℕ) : Type 0 where
+  pub says : codedSays r ≡ answerBy (encodeFault least tree out) (length (codeOfList code (treeOf tree)) ∷ [])
+  pub written : after ≡ bufferAfter least code numbers tree out
+
+-- of 01's player
+abbrev pub Encodes : (tree out : List ℕ) (r : Coded) (after : List ℕ) → Type 0
+Encodes = EncodesBy leastBuffer (λ t. code t 0) numbersOf
 
 -- "the run's first instruction from 1, and its length", of a node's part and its context
 abbrev pub runAt : Place → Run

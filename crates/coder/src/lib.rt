@@ -1,21 +1,18 @@
 // The coder: from a tree to instructions that thirteen registers can run.
-//
-// One pass over the tree's list notes where each node's part begins and what it needs. With these notes a node's children
-// are found from its entry: the right one is the entry before, the left one the entry before the right part's start.
 ghost use mathlib.Core.Path.{_≡_};
 ghost use mathlib.Core.Bool.{true};
 ghost use mathlib.Core.Option.{some};
-ghost use mathlib.Core.List.{[], _∷_};
-ghost use Prim.Native.Nat.{_+_, _<_, _≤_};
+ghost use mathlib.Core.List.{[]};
+ghost use Prim.Native.Nat.{_<_};
 ghost use lib.ListN.{length};
-ghost use Rattle.tree.specs.Tree.{Operator, Tree, sign, mostNodes};
+ghost use Rattle.tree.specs.Tree.{Tree};
 ghost use Rattle.tree.specs.Parse.{treeOf, isSome, locate};
 ghost use Rattle.tree.specs.InnerWriting.{Wrote};
-ghost use Rattle.player.specs.Limits.{registerCount};
-ghost use Rattle.player.specs.Instructions.{kindOf, numbersOf};
-ghost use Rattle.code.specs.Need.{needOf};
-ghost use Rattle.coder.specs.InnerNotes.{NodeAt, Noted, HasChildren, ChildrenInOrder, StepsDown, Writable};
-ghost use Rattle.code.specs.Code.{operation, code as codeOf, runFirst};
+ghost use Rattle.player.specs.Instructions.{numbersOf};
+ghost use Rattle.notes.specs.InnerNotes.{NodeAt, Noted, HasChildren};
+ghost use Rattle.coder.specs.InnerNotes.{StepsDown, Writable};
+ghost use Rattle.code.specs.Code.{code as codeOf};
+ghost use Rattle.code.specs.Runs.{runFirst};
 ghost use Rattle.coder.specs.Coding.{Encodes, runOf};
 
 // Four numbers for each of 8,191 instructions.
@@ -38,107 +35,10 @@ pub struct Run {
     pub count: usize,
 }
 
-// A node's children in the order of their code, by their entries, and the registers of the left and the right operand.
-struct Children {
-    first: usize,
-    second: usize,
-    left: u16,
-    right: u16,
-}
-
 // A child's entry, and how many instructions stand before its own in the code of its parent.
 struct Below {
     end: usize,
     before: usize,
-}
-
-// The need of a node whose children need a and b.
-fn need_of(a: u8, b: u8) -> u8
-    requires { ⌜ a < 255 ⌝ }
-    ensures { λ r. ⌜ r ≡ needOf a b ⌝ }
-{
-    if a == b {
-        return a + 1;
-    }
-    if a < b { b } else { a }
-}
-
-// Notes of each node of a tree where its part begins and what it needs.
-fn note_nodes(
-    tree: &[u16],
-    starts: &mut [u16; tree::MOST_NODES],
-    needs: &mut [u8; tree::MOST_NODES],
-)
-    requires { ⌜ (isSome (treeOf (now tree)) ≡ true) × (length (now starts) ≡ mostNodes) × (length (now needs) ≡ mostNodes) ⌝ }
-    ensures { λ _. ⌜ Noted (now (tree .entry)) (now (starts .exit)) (now (needs .exit)) ⌝ }
-{
-    let mut i = 0;
-    while i < tree.len() {
-        if tree[i] < tree::UNION {
-            starts[i] = i as u16;
-            needs[i] = 1;
-            i += 1;
-        } else {
-            let left = (starts[i - 1] as usize) - 1;
-            starts[i] = starts[left];
-            needs[i] = need_of(needs[left], needs[i - 1]);
-            i += 1;
-        }
-    }
-}
-
-// The children of the node at `end`, where its target is `target`.
-fn children_of(
-    starts: &[u16; tree::MOST_NODES],
-    needs: &[u8; tree::MOST_NODES],
-    end: usize,
-    target: u16,
-) -> Children
-    requires { ⌜ HasChildren (now starts) end × (target < registerCount) ⌝ }
-    ensures { λ r. ⌜ ChildrenInOrder (now (starts .entry)) (now (needs .entry)) end target (r .first) (r .second) (r .left) (r .right) ⌝ }
-{
-    let right = end - 1;
-    let left = (starts[right] as usize) - 1;
-    if needs[right] <= needs[left] {
-        Children {
-            first: left,
-            second: right,
-            left: target,
-            right: target + 1,
-        }
-    } else {
-        Children {
-            first: right,
-            second: left,
-            left: target + 1,
-            right: target,
-        }
-    }
-}
-
-// Writes an instruction's four numbers from index `at` on, and returns the index after them.
-fn put(out: &mut [u16], at: usize, kind: u16, target: u16, s: u16, t: u16) -> usize
-    requires { ⌜ at + 4 ≤ length (now out) ⌝ }
-    ensures { λ r. ⌜ Wrote (now (out .entry)) at (now (out .exit)) r (kind ∷ target ∷ s ∷ t ∷ []) ⌝ }
-{
-    out[at] = kind;
-    out[at + 1] = target;
-    out[at + 2] = s;
-    out[at + 3] = t;
-    at + 4
-}
-
-// The kind of an operator's instruction.
-fn kind_of(x: u16) -> u16
-    ensures { λ r. ⌜ ((o : Operator) → x ≡ sign o → r ≡ kindOf (operation o)) ⌝ }
-{
-    if x == tree::UNION {
-        return player::ADD;
-    }
-    if x == tree::DIFFERENCE {
-        return player::CUT;
-    }
-    player::BOTH
 }
 
 // Writes the code of the node at `end` from index `at` on, and returns the index after it.
@@ -156,13 +56,15 @@ fn write_node(
 {
     let x = tree[end];
     if x < tree::UNION {
-        return put(out, at, player::LOAD, target, x, 0);
+        return notes::put(out, at, player::LOAD, target, x, 0);
     }
-    let c = children_of(starts, needs, end, target);
+    let c = notes::children_of(starts, needs, end);
     let other = target + 1;
     let next = write_node(tree, starts, needs, c.first, target, out, at);
     let last = write_node(tree, starts, needs, c.second, other, out, next);
-    put(out, last, kind_of(x), target, c.left, c.right)
+    let a = notes::pick(c.left, target, other);
+    let b = notes::pick(c.left, other, target);
+    notes::put(out, last, notes::kind_of(x), target, a, b)
 }
 
 // Writes the code of a tree into `out`, or refuses and writes nothing.
@@ -175,7 +77,7 @@ pub fn encode(tree: &[u16], out: &mut [u16]) -> Coded
     if tree::is_tree(tree) {
         let mut starts = [0u16; tree::MOST_NODES];
         let mut needs = [0u8; tree::MOST_NODES];
-        note_nodes(tree, &mut starts, &mut needs);
+        notes::note_nodes(tree, &mut starts, &mut needs);
         write_node(tree, &starts, &needs, tree.len() - 1, 0, out, 0);
         return Coded::Done(tree.len());
     }
@@ -248,7 +150,7 @@ pub fn run_of(tree: &[u16], position: usize) -> Run
     if tree::is_tree(tree) {
         let mut starts = [0u16; tree::MOST_NODES];
         let mut needs = [0u8; tree::MOST_NODES];
-        note_nodes(tree, &mut starts, &mut needs);
+        notes::note_nodes(tree, &mut starts, &mut needs);
         let first = first_of(tree, &starts, &needs, position);
         let start = starts[position] as usize;
         return Run {

@@ -7,6 +7,7 @@ use lib.Dec.{eqb}
 use lib.ListN.{length, getD}
 use lib.Seq.{sets}
 use Rattle.common.specs.Answer.{Answer, done, refusedWith, answerBy}
+use Rattle.tree.specs.Tree.{Tree}
 use Rattle.tree.specs.Parse.{treeOf}
 use Rattle.move_table.specs.Packing.{empty}
 use Rattle.move_table.specs.declared.LoadedTable.{LoadedTable}
@@ -15,7 +16,13 @@ use Rattle.lift.specs.Answer.{resultSays, liftBuffer}
 use Rattle.gather.specs.Answer.{gatheringSays, Gathers}
 use Rattle.gather.specs.declared.Gathering.{Gathering}
 use Rattle.coder.specs.Coding.{encodeFault, codeOfList, bufferAfter}
-use Rattle.player.specs.Playing.{playFault, bytesAfter}
+use Rattle.player.specs.Instructions.{Lamps}
+use Rattle.player.specs.Playing.{bytesBy}
+
+-- the number, 0 for done
+abbrev pub answerNumber : Answer → ℕ
+answerNumber (done values) = 0
+answerNumber (refusedWith number) = number
 
 -- the number, and behind it the values
 abbrev pub answerNumbers : Answer → List ℕ
@@ -46,12 +53,12 @@ pub record GatherCall (tree marks out out′ answer answer′ : List ℕ) : Type
   pub gathers : Gathers tree marks out out′ verdict
   pub stores : answer′ ≡ withAnswer (gatheringSays verdict) answer
 
--- `encode`, the same
-pub record EncodeCall (tree out out′ answer answer′ : List ℕ) : Type 0 where
-  pub written : out′ ≡ bufferAfter tree out
-  pub stores : answer′ ≡ withAnswer (answerBy (encodeFault tree out) (length (codeOfList (treeOf tree)) ∷ [])) answer
+-- `encode`, the same, of a device: its least buffer, its code of a tree, and a code's numbers
+pub record EncodeCall {I : Type 0} (least : ℕ) (code : Tree → List I) (numbers : List I → List ℕ) (tree out out′ answer answer′ : List ℕ) : Type 0 where
+  pub written : out′ ≡ bufferAfter least code numbers tree out
+  pub stores : answer′ ≡ withAnswer (answerBy (encodeFault least tree out) (length (codeOfList code (treeOf tree)) ∷ [])) answer
 
--- the number alone, 0 for done
-pub record PlayCall (code patch lamps lamps′ : List ℕ) (number : ℕ) : Type 0 where
-  pub numbered : number ≡ playFault code patch lamps
-  pub written : lamps′ ≡ bytesAfter code patch lamps
+-- the number alone, 0 for done, by the first fault and the lamps lit
+pub record PlayCall (fault : ℕ) (lit : Lamps) (lamps lamps′ : List ℕ) (number : ℕ) : Type 0 where
+  pub numbered : number ≡ fault
+  pub written : lamps′ ≡ bytesBy fault lit lamps

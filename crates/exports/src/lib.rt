@@ -9,7 +9,14 @@ ghost use Rattle.moves.specs.Moves.{ours};
 ghost use Rattle.lift.specs.Lift.{liftOf};
 ghost use Rattle.lift.specs.Answer.{liftedSays};
 ghost use Rattle.lift.specs.School.{liftWith};
-ghost use Rattle.exports.specs.Storing.{withAnswer, tableFrom, LiftCall, GatherCall, EncodeCall, PlayCall};
+ghost use Rattle.code.specs.Code.{code};
+ghost use Rattle.coder.specs.Coding as newer-coder;
+ghost use Rattle.coder.specs.Coding.{codedSays};
+ghost use Rattle.player.specs.Instructions as newer;
+ghost use Rattle.player.specs.Patches.{rig};
+ghost use Rattle.player.specs.Playing as newer-player;
+ghost use Rattle.player.specs.Playing.{playedSays};
+ghost use Rattle.exports.specs.Storing.{answerNumber, withAnswer, tableFrom, LiftCall, GatherCall, EncodeCall, PlayCall};
 use coder::Coded;
 use gather::Gathering;
 use lift::Lifted;
@@ -115,26 +122,41 @@ pub extern "C" fn gather_call(tree: &[u16], marks: &[u16], out: &mut [u16], answ
     }
 }
 
-// Number, count of instructions.
-#[no_mangle]
-pub extern "C" fn encode_call(tree: &[u16], out: &mut [u16], answer: &mut [u32])
-    ensures { λ r. ⌜ EncodeCall (now (tree .entry)) (now (out .entry)) (now (out .exit)) (now (answer .entry)) (now (answer .exit)) ⌝ }
+// Stores a coder's answer: number, count of instructions.
+fn store_coded(coded: Coded, answer: &mut [u32])
+    ensures { λ r. ⌜ now (answer .exit) ≡ withAnswer (codedSays coded) (now (answer .entry)) ⌝ }
 {
-    let coded = coder::encode(tree, out);
     match coded {
         Coded::Done(count) => store_all(answer, 0, count, 0, 0),
         Coded::Refused(number) => store_all(answer, number as usize, 0, 0, 0),
     }
 }
 
-// The number.
+// Number, count of instructions.
 #[no_mangle]
-pub extern "C" fn play_call(code: &[u16], patch: &[u16], lamps: &mut [u8]) -> u16
-    ensures { λ r. ⌜ PlayCall (now (code .entry)) (now (patch .entry)) (now (lamps .entry)) (now (lamps .exit)) r ⌝ }
+pub extern "C" fn encode_call(tree: &[u16], out: &mut [u16], answer: &mut [u32])
+    ensures { λ r. ⌜ EncodeCall newer-coder.leastBuffer (λ t. code t 0) newer.numbersOf (now (tree .entry)) (now (out .entry)) (now (out .exit)) (now (answer .entry)) (now (answer .exit)) ⌝ }
 {
-    let played = player::play(code, patch, lamps);
+    let coded = coder::encode(tree, out);
+    store_coded(coded, answer);
+}
+
+// The number of a player's answer.
+fn number_of(played: Played) -> u16
+    ensures { λ r. ⌜ r ≡ answerNumber (playedSays played) ⌝ }
+{
     match played {
         Played::Done => 0,
         Played::Refused(number) => number,
     }
+}
+
+// The number.
+#[no_mangle]
+pub extern "C" fn play_call(code: &[u16], patch: &[u16], lamps: &mut [u8]) -> u16
+    ensures { λ r. ⌜ PlayCall (newer-player.playFault (now (code .entry)) (now (patch .entry)) (now (lamps .entry))) (newer.litLamps (rig (now (patch .entry))) (newer.instructions (now (code .entry))))
+        (now (lamps .entry)) (now (lamps .exit)) r ⌝ }
+{
+    let played = player::play(code, patch, lamps);
+    number_of(played)
 }

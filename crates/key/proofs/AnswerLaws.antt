@@ -29,7 +29,8 @@ use Rattle.sheet.specs.Reading.{ReadingState, ReadingOutcome, accepted, refused
 use Rattle.sheet.specs.declared.Sheet.{Sheet}
 use Rattle.sheet.proofs.AcceptedLaws.{accepted-sheet, accepted-short, answered-tree, answered-marks, answered-long, number-accepted, number-refused, Accepted}
 use Rattle.printing.proofs.PrintingLaws.{no-most}
-use Rattle.printing.specs.Key.{NO, Key, refusal, text, liftRows, heldRows, instructionRows}
+use Rattle.player.specs.Instructions.{Instruction}
+use Rattle.printing.specs.Key.{NO, Key, refusal, text, liftRows, heldRows, instructionRow, instructionRows}
 use Rattle.lift_lines.specs.Lifting.{treeAfter, liftAnswers}
 use Rattle.key.specs.Call.{keyBytes, KeyOf, KeyWith, keySays, KeyCall}
 use Rattle.key.specs.InnerKeyOf.{heldBy, codeBy, keyIn, keyFor, keyBy, keyForSchool, schoolKeyOf, KeyBy}
@@ -72,12 +73,12 @@ module _ (s : List ℕ) (st : ReadingState) (e : reading s ≡ accepted st) (A :
         answers = subst (λ (o : Option Tree). KeyOf m (accepted st) (keyIn m st o)) (sym (A .is))
             (A .tree, A .is, demand-3 R (A .tree) (st .marks) (st .lifts) (A .nodes) held is (F .ends));
         wrote = wrote-as (wrote-then (L .wrote) (F .wrote))
-            (unfold text keyBy in sym (lines-append (liftRows (liftAnswers m (A .tree) (st .lifts))) (heldRows held ++ instructionRows is)) ∙ ap (λ (o : Option Tree). text (keyIn m st o)) (sym (A .is)));
+            (unfold text keyBy in sym (lines-append (liftRows (liftAnswers m (A .tree) (st .lifts))) (heldRows held ++ instructionRows instructionRow is)) ∙ ap (λ (o : Option Tree). text instructionRow (keyIn m st o)) (sym (A .is)));
         most = omega (arith, L .most, F .most, few-lifts);
       }
 
 -- a refusal's line is its text
-pub refusal-text : (number at : ℕ) → line NO (number ∷ at ∷ []) ≡ text (refusal number at)
+pub refusal-text : (number at : ℕ) → line NO (number ∷ at ∷ []) ≡ text instructionRow (refusal number at)
 unfolding text lines
 refusal-text number at = sym (append-nil (line NO (number ∷ at ∷ [])))
 
@@ -148,20 +149,20 @@ pub wrote-accepted : (m : MoveTable) (s : List ℕ) {out out′ : List ℕ} {n :
 wrote-accepted m s {out} {out′} {n} e W = subst (λ (o : ReadingOutcome). WroteKey m o out out′ n) (sym e) W
 
 -- ---- the contract of a call: both promises
-abbrev pub Keys : (Key → Type 0) → List ℕ → List ℕ → KeyAnswer → List ℕ → Type 0
+abbrev pub Keys : (Key Instruction → Type 0) → List ℕ → List ℕ → KeyAnswer → List ℕ → Type 0
 Keys IsKey bytes out r out′ = KeyCall IsKey out r out′ × KeyBy bytes out r out′
 
 -- a key was written
-pub call-written : (IsKey : Key → Type 0) (k : Key) {out out′ : List ℕ} {n : ℕ} → IsKey k → keyBytes ≤ length out → n ≤ keyBytes → Wrote out 0 out′ n (text k)
-    → Keys IsKey (text k) out (Written n) out′
+pub call-written : (IsKey : Key Instruction → Type 0) (k : Key Instruction) {out out′ : List ℕ} {n : ℕ} → IsKey k → keyBytes ≤ length out → n ≤ keyBytes → Wrote out 0 out′ n (text instructionRow k)
+    → Keys IsKey (text instructionRow k) out (Written n) out′
 call-written IsKey k {out} {out′} {n} answers room most w =
-    let says : keySays (Written n) ≡ some (done (length (text k) ∷ [])) = ap (λ (m : ℕ). some (done (m ∷ []))) (let z : n ≡ length (text k) = omega (arith, w .ends) in z) in
-    let written : out′ ≡ over (text k) out = wrote-over w (omega (arith, w .ends, most)) in (
+    let says : keySays (Written n) ≡ some (done (length (text instructionRow k) ∷ [])) = ap (λ (m : ℕ). some (done (m ∷ []))) (let z : n ≡ length (text instructionRow k) = omega (arith, w .ends) in z) in
+    let written : out′ ≡ over (text instructionRow k) out = wrote-over w (omega (arith, w .ends, most)) in (
       record { short = λ h. absurd (omega arith); long = λ h. record { key = k; answers = answers; says = says; written = written } },
       record { by = λ h. (says, written) },
     )
 
-pub call-short : (IsKey : Key → Type 0) (bytes out : List ℕ) → length out < keyBytes → Keys IsKey bytes out Short out
+pub call-short : (IsKey : Key Instruction → Type 0) (bytes out : List ℕ) → length out < keyBytes → Keys IsKey bytes out Short out
 call-short IsKey bytes out h = (record { short = λ _. (refl, refl); long = λ k. absurd (omega arith) }, record { by = λ k. absurd (omega arith) })
 
 -- by a table
@@ -173,14 +174,14 @@ call-by m s room W = call-written (KeyOf m (reading s)) (keyFor m (reading s)) (
 -- ---- by a school's table
 module _ (t s : List ℕ) {out out′ : List ℕ} {n : ℕ} (room : keyBytes ≤ length out) where
   -- a key by what loading comes to
-  by-loading : (o : Loaded) → loading t ≡ o → (k : Key) → k ≡ keyForSchool o (reading s) → KeyWith o (reading s) k → n ≤ keyBytes → Wrote out 0 out′ n (text k)
+  by-loading : (o : Loaded) → loading t ≡ o → (k : Key Instruction) → k ≡ keyForSchool o (reading s) → KeyWith o (reading s) k → n ≤ keyBytes → Wrote out 0 out′ n (text instructionRow k)
       → Keys (KeyWith (loading t) (reading s)) (schoolKeyOf t s) out (Written n) out′
   unfolding schoolKeyOf
   by-loading o e k q K most w =
-      subst (λ (o : Loaded). Keys (KeyWith o (reading s)) (text (keyForSchool o (reading s))) out (Written n) out′) (sym e)
-      (subst (λ (x : Key). Keys (KeyWith o (reading s)) (text x) out (Written n) out′) q (call-written (KeyWith o (reading s)) k K room most w))
+      subst (λ (o : Loaded). Keys (KeyWith o (reading s)) (text instructionRow (keyForSchool o (reading s))) out (Written n) out′) (sym e)
+      (subst (λ (x : Key Instruction). Keys (KeyWith o (reading s)) (text instructionRow x) out (Written n) out′) q (call-written (KeyWith o (reading s)) k K room most w))
 
-  pub school-refused : (number line : ℕ) → loading t ≡ table.refused number line → n ≤ keyBytes → Wrote out 0 out′ n (text (refusal number line))
+  pub school-refused : (number line : ℕ) → loading t ≡ table.refused number line → n ≤ keyBytes → Wrote out 0 out′ n (text instructionRow (refusal number line))
       → Keys (KeyWith (loading t) (reading s)) (schoolKeyOf t s) out (Written n) out′
   school-refused number line e most w = by-loading (table.refused number line) e (refusal number line) refl refl most w
 

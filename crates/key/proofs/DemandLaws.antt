@@ -2,7 +2,7 @@
 use mathlib.Core.Path.{_≡_, refl, sym, ap, subst, _∙_, fun-ext}
 use mathlib.Core.Bool.{Bool}
 use mathlib.Core.List.{List, [], _∷_, _++_}
-use Prim.Native.Nat.{ℕ, _≤_}
+use Prim.Native.Nat.{ℕ, _≤_, _<_}
 use native.Mathlib.Omega.{arith}
 use lib.ListN.{length, drop}
 use Rattle.tree.specs.Tree.{Tree, size, mostNodes, Equivalent, isIn}
@@ -12,9 +12,12 @@ use Rattle.player.specs.Limits.{registerCount, byteCount}
 use Rattle.player.specs.Instructions.{Instruction}
 use Rattle.player.specs.Patches.{rig}
 use Rattle.player.specs.Bytes.{bytes}
-use Rattle.code.specs.Code.{code, codePlace, ownCode, runFirst, runCount}
-use Rattle.code.specs.Effects.{Every, Names, stretch, ClosedRun, LoadsApart}
-use Rattle.code.proofs.Theorems.{thirteen-suffice, run-own, closed-run, loads-apart, code-lights}
+use Rattle.code.specs.Code.{code}
+use Rattle.code.specs.Devices.{codeOn, newerPlayer}
+use Rattle.code.specs.Effects.{Every, Names, newerEffect, stretch, ClosedRun, LoadsApart}
+use Rattle.code.specs.Runs.{runFirst, runCount}
+use Rattle.code.proofs.Theorems.{thirteen-suffice, loads-apart}
+use Rattle.code.proofs.NewerLaws.{newer-acts, code-is, code-run, code-lights}
 use Rattle.gather.specs.Gathering.{CannotBeGathered}
 use Rattle.printing.specs.Key.{LiftAnswer, Held, unmarked, heldRun, cannot}
 use Rattle.moves.specs.Moves.{MoveTable}
@@ -38,31 +41,37 @@ lights t u e h patch lamps even good long r after p =
     let L = code-lights u h patch lamps long even good r after p in
     (L .done, L .lit ∙ ap (λ (f : ℕ → Bool). bytes f ++ drop byteCount lamps) (fun-ext (λ lamp. sym (e .same (rig patch) lamp))))
 
+-- "No register above 12 is named"
+registers-below : (t : Tree) → size t ≤ mostNodes → Every (Names newerEffect (λ q. q < registerCount)) (code t 0)
+registers-below t h = rw (code-is t) at (thirteen-suffice newerPlayer newerEffect newer-acts t h)
+
 -- the code of the gathered tree, where the key says HELD and a run
 module _ (t u : Tree) (e : Equivalent t u) (marks : List ℕ) (first count : ℕ) (is : List Instruction) (some-mark : 1 ≤ length marks) (H : HeldCode u marks first count is) where
   held-lights : Lights t is
   held-lights = subst (Lights t) (sym (H .coded)) (lights t (H .tree) (equivalent-trans e (H .equivalent)) (H .most))
 
-  held-registers : Every (Names 0 registerCount) is
-  held-registers = subst (Every (Names 0 registerCount)) (sym (H .coded)) (thirteen-suffice (H .tree) (H .most))
+  held-registers : Every (Names newerEffect (λ q. q < registerCount)) is
+  held-registers = subst (Every (Names newerEffect (λ q. q < registerCount))) (sym (H .coded)) (registers-below (H .tree) (H .most))
 
   -- the code, as that of the holder in its context
-  code-whole : code (plug (H .gathered .holder) (H .gathered .above)) 0 ≡ is
-  code-whole = ap (λ (x : Tree). code x 0) (sym (H .gathered .whole)) ∙ sym (H .coded)
+  code-whole : codeOn newerPlayer (plug (H .gathered .holder) (H .gathered .above)) ≡ is
+  code-whole = ap (codeOn newerPlayer) (sym (H .gathered .whole)) ∙ code-is (H .tree) ∙ sym (H .coded)
 
   -- what holds of the holder's run in it holds of the run that HELD names
-  of-run : (P : List Instruction → ℕ → ℕ → Type 0) → P (code (plug (H .gathered .holder) (H .gathered .above)) 0) (runFirst (H .gathered .holder) (H .gathered .above)) (runCount (H .gathered .holder) (H .gathered .above)) → P is first count
+  of-run : (P : List Instruction → ℕ → ℕ → Type 0) → P (codeOn newerPlayer (plug (H .gathered .holder) (H .gathered .above))) (runFirst (H .gathered .holder) (H .gathered .above)) (runCount (H .gathered .holder) (H .gathered .above)) → P is first count
   of-run P p = rw (H .firstIs, H .countIs) (subst (λ (x : List Instruction). P x (runFirst (H .gathered .holder) (H .gathered .above)) (runCount (H .gathered .holder) (H .gathered .above))) code-whole p)
 
   held-run : HolderRun u marks first count is
   held-run =
       let h = H .gathered .holder in
       let c = H .gathered .above in
+      let R = of-run (λ x f n. (r : ℕ) × (stretch x f n ≡ code h r) × ClosedRun newerEffect x f n r) (code-run h c) in
       record {
         held = H;
-        unbroken = of-run (λ x f n. stretch x f n ≡ ownCode h c) (run-own h c);
-        closed = of-run (λ x f n. ClosedRun x f n (codePlace h c 0 .target)) (closed-run h c);
-        apart = of-run (λ x f n. LoadsApart (isIn marks) x f n) (loads-apart h c (isIn marks) (H .gathered .marked) (H .gathered .others));
+        register = R .0;
+        unbroken = R .1;
+        closed = R .2;
+        apart = of-run (λ x f n. LoadsApart newerEffect (isIn marks) x f n) (loads-apart newerPlayer newerEffect newer-acts h c (isIn marks) (H .gathered .marked) (H .gathered .others));
       }
 
   held-demand : (m : MoveTable) (ls : List LiftLine) → u ≡ treeAfter m t ls → Demand3 m t marks ls (liftAnswers m t ls) (heldRun first count) is
@@ -87,7 +96,7 @@ plain-demand {m} R t marks ls h none =
       marked = λ _. none;
       run = λ f c q. differ cc;
       lit = λ _. lights t (treeAfter m t ls) (equivalent-sym (K .equivalent)) (K .most);
-      registers = thirteen-suffice (treeAfter m t ls) (K .most);
+      registers = registers-below (treeAfter m t ls) (K .most);
       never = λ q. differ cc;
       always = λ k C. absurd (omega (arith, ap (length {A = ℕ}) none));
       none = λ q. differ cc;

@@ -8,7 +8,7 @@ use native.Mathlib.Omega.{arith}
 use borrow.Author.Tests.{lt-ltb}
 use lib.ListN.{length, take, drop, length-append}
 use Rattle.tree.specs.Tree.{Tree, postfix, size, mostNodes, isIn}
-use Rattle.tree.specs.Context.{plug, position}
+use Rattle.tree.specs.Context.{position}
 use Rattle.tree.specs.Parse.{treeOf, locate}
 use Rattle.tree.specs.InnerWriting.{Wrote}
 use Rattle.tree.proofs.TreeLaws.{postfix-length, size-positive}
@@ -16,10 +16,13 @@ use Rattle.tree.proofs.ContextLaws.{locate-plug, position-most}
 use Rattle.tree.proofs.ParseLaws.{tree-of-postfix}
 use Rattle.tree.proofs.WritingLaws.{wrote-then, wrote-as, take-over}
 use Rattle.text.specs.Line.{line, lines}
-use Rattle.code.specs.Code.{code, codePlace, runFirst, runCount}
+use Rattle.code.specs.Need.{nodesBefore}
+use Rattle.code.specs.Code.{code}
+use Rattle.code.specs.Runs.{runFirst, runCount}
 use Rattle.coder.specs.Coding.{codeOfList, runOf}
 use Rattle.coder.specs.declared.Run.{Run}
-use Rattle.code.proofs.Theorems.{code-length, code-well-formed, closed-run}
+use Rattle.code.proofs.RunLaws.{before-most}
+use Rattle.code.proofs.NewerLaws.{length-code, code-well-formed}
 use Rattle.gather.specs.Gathering.{Gathered, CannotBeGathered}
 use Rattle.gather.specs.Answer.{gatherFault, GatheredTo, GathersTree, Gathers}
 use Rattle.gather.specs.InnerGathered.{gatheredBy, holderOf, Returned, GathersBy}
@@ -27,7 +30,7 @@ use Rattle.gather.specs.declared.Gathering.{Gathering}
 use Rattle.gather.specs.declared.Gathering.the-variants.{Done, Refused}
 use Rattle.gather.proofs.GatheredLaws.{holder-of, named-tree, named-none}
 use Rattle.player.specs.Instructions.{Instruction}
-use Rattle.printing.specs.Key.{Held, unmarked, cannot, HELD, heldRows, instructionRows}
+use Rattle.printing.specs.Key.{Held, unmarked, cannot, HELD, heldRows, instructionRow, instructionRows}
 use Rattle.key.specs.InnerKeyOf.{heldAs, heldIn, heldBy, codeBy}
 use Rattle.lift_lines.specs.Inner.{IsList}
 use Rattle.key.specs.Inner.{heldBytes, instructionBytes, Markable, Ends, Finished}
@@ -35,8 +38,8 @@ use Rattle.printing.proofs.PrintingLaws.{code-most, held-most, never-most}
 use Rattle.key.proofs.GatheringLaws.{no-fault}
 
 -- the text of a tree's code has room
-pub tree-code-most : (u : Tree) → size u ≤ mostNodes → length (lines (instructionRows (code u 0))) ≤ instructionBytes * mostNodes
-tree-code-most u h = omega (arith, code-most (code u 0) (code-well-formed u h), code-length u 0)
+pub tree-code-most : (u : Tree) → size u ≤ mostNodes → length (lines (instructionRows instructionRow (code u 0))) ≤ instructionBytes * mostNodes
+tree-code-most u h = omega (arith, code-most (code u 0) (code-well-formed u h), length-code u 0)
 
 pub empty-list : (l : List ℕ) → length l ≡ 0 → l ≡ []
 empty-list [] e = refl
@@ -44,11 +47,11 @@ empty-list (x ∷ l) e = absurd (omega arith)
 
 -- the lines and the instructions named, said in another way
 finished : {u : Tree} {marks out out′ : List ℕ} {at next : ℕ} (held : Held) (is : List Instruction) → heldBy u marks ≡ held → codeBy u marks ≡ is → Ends u marks held is
-    → Wrote out at out′ next (lines (heldRows held ++ instructionRows is)) → next ≤ at + heldBytes + instructionBytes * mostNodes → Finished u marks out at out′ next
+    → Wrote out at out′ next (lines (heldRows held ++ instructionRows instructionRow is)) → next ≤ at + heldBytes + instructionBytes * mostNodes → Finished u marks out at out′ next
 finished held is e f E w h = record { ends = rw (e, f) E; wrote = rw (e, f) w; most = h }
 
 -- ---- without marks
-pub finished-plain : {u : Tree} {marks out out′ : List ℕ} {at next : ℕ} → size u ≤ mostNodes → marks ≡ [] → Wrote out at out′ next (lines (instructionRows (code u 0)))
+pub finished-plain : {u : Tree} {marks out out′ : List ℕ} {at next : ℕ} → size u ≤ mostNodes → marks ≡ [] → Wrote out at out′ next (lines (instructionRows instructionRow (code u 0)))
     → Finished u marks out at out′ next
 finished-plain {u} h e w = finished unmarked (code u 0) (rw e) (rw e) (e, refl) w (omega (arith, w .ends, tree-code-most u h))
 
@@ -57,7 +60,7 @@ held-marked : (u : Tree) (marks : List ℕ) → 1 ≤ length marks → heldBy u 
 held-marked u [] h = absurd (omega arith)
 held-marked u (m ∷ marks) h = refl
 
-code-marked : (u : Tree) (marks : List ℕ) → 1 ≤ length marks → codeBy u marks ≡ codeOfList (gatheredBy u marks)
+code-marked : (u : Tree) (marks : List ℕ) → 1 ≤ length marks → codeBy u marks ≡ codeOfList (λ t. code t 0) (gatheredBy u marks)
 code-marked u [] h = absurd (omega arith)
 code-marked u (m ∷ marks) h = refl
 
@@ -118,30 +121,26 @@ module _ (g : Tree) (m : ℕ → Bool) (p : ℕ) (H : Gathered m g p) (most : si
 
   pub run-line : length (line HELD (0 ∷ run .first ∷ run .count ∷ [])) ≤ heldBytes
   run-line =
-      let c = closed-run (H .holder) (H .above) .inside in
-      let n : length (code (plug (H .holder) (H .above)) 0) ≡ size g = code-length (plug (H .holder) (H .above)) 0 ∙ ap size (sym (H .whole)) in
-      held-most (run .first) (run .count) (omega (arith, run-first, c .0, c .1, n, some-count)) (omega (arith, run-count, c .0, c .1, n))
-    where
-      some-count : 0 < runCount (H .holder) (H .above)
-      some-count = omega (arith, code-length (H .holder) (codePlace (H .holder) (H .above) 0 .target), size-positive (H .holder))
+      let n : nodesBefore (H .holder) (H .above) + size (H .holder) ≤ size g = rw (H .whole) (before-most (H .holder) (H .above)) in
+      held-most (run .first) (run .count) (omega (arith, run-first, n, size-positive (H .holder))) (omega (arith, run-count, n))
 
 -- ---- both answers of `put_held`
 pub finished-never : {u : Tree} {marks out out′ : List ℕ} {at next : ℕ} → 1 ≤ length marks → CannotBeGathered (isIn marks) u × (gatheredBy u marks ≡ none)
     → Wrote out at out′ next (line HELD (19 ∷ [])) → Finished u marks out at out′ next
 finished-never {u} {marks} k (C, e) w =
-    finished cannot [] (held-marked u marks k ∙ ap (heldIn marks) e) (code-marked u marks k ∙ ap codeOfList e) (k, C, refl)
+    finished cannot [] (held-marked u marks k ∙ ap (heldIn marks) e) (code-marked u marks k ∙ ap (codeOfList (λ t. code t 0)) e) (k, C, refl)
     (wrote-as w (unfold lines instructionRows in sym (append-nil (line HELD (19 ∷ []))))) (omega (arith, w .ends, never-most))
 
 pub finished-held : {u : Tree} {marks old new out out₁ out₂ : List ℕ} {count holder at next last : ℕ} (D : NamedTo u marks old new count holder) (run : Run)
     → run ≡ runOf (treeOf (take count new)) holder → 1 ≤ length marks → Wrote out at out₁ next (line HELD (0 ∷ run .first ∷ run .count ∷ []))
-    → Wrote out₁ next out₂ last (lines (instructionRows (code (D .to .result) 0))) → Finished u marks out at out₂ last
+    → Wrote out₁ next out₂ last (lines (instructionRows instructionRow (code (D .to .result) 0))) → Finished u marks out at out₂ last
 finished-held {u} {marks} {old} {new} {out} {out₁} {out₂} {count} {holder} D run R k w v =
     let T = D .to in
     let g = T .result in
     let l = gathered-list T .list in
     let named : run ≡ runOf (some g) (holderOf marks g)
     = R ∙ ap₂ runOf (ap treeOf l ∙ tree-of-postfix g (T .most)) (holder-of marks (T .gathered)) in
-    finished (heldAs run) (code g 0) (held-marked u marks k ∙ ap (heldIn marks) (D .is) ∙ ap heldAs (sym named)) (code-marked u marks k ∙ ap codeOfList (D .is)) (
+    finished (heldAs run) (code g 0) (held-marked u marks k ∙ ap (heldIn marks) (D .is) ∙ ap heldAs (sym named)) (code-marked u marks k ∙ ap (codeOfList (λ t. code t 0)) (D .is)) (
       k,
       record {
         tree = g;

@@ -9,7 +9,8 @@ use Rattle.tree.specs.Tree.{Tree, size, mostNodes, WithoutIntersection}
 use Rattle.tree.specs.Parse.{treeOf}
 use Rattle.tree.proofs.ParseLaws.{tree-of-sound}
 use Rattle.code.specs.Effects.{Every}
-use Rattle.code.proofs.CodeLaws.{NotBoth, without-both}
+use Rattle.code.specs.Code.{code}
+use Rattle.code.proofs.NewerLaws.{NotBoth, without-both}
 use Rattle.coder.specs.Coding.{codeOfList}
 use Rattle.gather.specs.InnerGathered.{gatheredBy}
 use Rattle.gather.proofs.GatheredLaws.{gathered-plain}
@@ -19,13 +20,14 @@ use Rattle.sheet.specs.Rules.{twoOperatorRules, sheetRules}
 use Rattle.sheet.specs.Reading.{ReadingState, accepted, readWith}
 use Rattle.sheet.proofs.RulesLaws.{stricter-accepts, third-operator}
 use Rattle.sheet.proofs.WithoutLaws.{accepted-without}
-use Rattle.printing.specs.Key.{Key, refusal, answers, text}
+use Rattle.player.specs.Instructions.{Instruction}
+use Rattle.printing.specs.Key.{Key, refusal, answers, instructionRow, text}
 use Rattle.lift_lines.specs.Lifting.{treeAfter}
 use Rattle.lift_lines.proofs.LiftingLaws.{AllAnswers, never-27, after-keeps}
 use Rattle.key.specs.InnerKeyOf.{codeBy, keyIn, keyFor, keyBy, keyOf}
 
 -- no lift is answered with 27, and no instruction is BOTH
-abbrev pub SaysNothingNew : Key → Type 0
+abbrev pub SaysNothingNew : Key Instruction → Type 0
 SaysNothingNew (refusal number line) = Unit {0}
 SaysNothingNew (answers ls held is) = AllAnswers (λ a. a .number ≡ 27 → ⊥) ls × Every NotBoth is
 
@@ -34,13 +36,13 @@ unfolding Every
 code-without u [] w = without-both u 0 w
 code-without u (m ∷ marks) w = go (gatheredBy u (m ∷ marks)) refl
   where
-    go : (o : Option Tree) → gatheredBy u (m ∷ marks) ≡ o → Every NotBoth (codeOfList o)
+    go : (o : Option Tree) → gatheredBy u (m ∷ marks) ≡ o → Every NotBoth (codeOfList (λ t. code t 0) o)
     go none e = tt
     go (some g) e = without-both g 0 (gathered-plain u (m ∷ marks) g e w)
 
-pub older-key : (s : List ℕ) (st : ReadingState) → readWith twoOperatorRules s ≡ accepted st → (keyOf s ≡ text (keyFor ours (accepted st))) × SaysNothingNew (keyFor ours (accepted st))
+pub older-key : (s : List ℕ) (st : ReadingState) → readWith twoOperatorRules s ≡ accepted st → (keyOf s ≡ text instructionRow (keyFor ours (accepted st))) × SaysNothingNew (keyFor ours (accepted st))
 unfolding keyBy
-older-key s st e = (ap (λ o. text (keyFor ours o)) (stricter-accepts twoOperatorRules sheetRules third-operator s st e), go (treeOf (st .entries)) refl)
+older-key s st e = (ap (λ o. text instructionRow (keyFor ours o)) (stricter-accepts twoOperatorRules sheetRules third-operator s st e), go (treeOf (st .entries)) refl)
   where
     go : (o : Option Tree) → treeOf (st .entries) ≡ o → SaysNothingNew (keyIn ours st o)
     go none q = tt

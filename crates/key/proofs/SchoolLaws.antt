@@ -21,17 +21,17 @@ use Rattle.key.proofs.DemandLaws.{some-mark}
 use Rattle.key.specs.Call.{KeyOf, KeyWith}
 
 -- a key says `HELD` 19
-abbrev pub SaysCannot : Key → Type 0
+abbrev pub SaysCannot : Key Instruction → Type 0
 SaysCannot (refusal number line) = ⊥
 SaysCannot (answers lifts held is) = held ≡ cannot
 
 -- its instructions
-abbrev pub instructionsOf : Key → List Instruction
+abbrev pub instructionsOf : Key Instruction → List Instruction
 instructionsOf (refusal number line) = []
 instructionsOf (answers lifts held is) = is
 
 -- two keys have the same verdict, and where they have instructions the player lights the same lamps, whichever lamps a patch gives the groups
-pub record Alike (k l : Key) : Type 0 where
+pub record Alike (k l : Key Instruction) : Type 0 where
   pub verdict : Exactly (SaysCannot k) (SaysCannot l)
   pub lamps : (SaysCannot k → ⊥) → (patch bytes : List ℕ) → wrongPairCount (length patch) ≡ false → wrongPatch patch ≡ false → byteCount ≤ length bytes
       → (r s : Played) (after after′ : List ℕ) → Plays (numbersOf (instructionsOf k)) patch bytes r after → Plays (numbersOf (instructionsOf l)) patch bytes s after′
@@ -42,7 +42,7 @@ module _ {m n : MoveTable} {t : Tree} {marks : List ℕ} {ls : List LiftLine} wh
   same-verdict : {lifts lifts′ : List LiftAnswer} {held held′ : Held} {is is′ : List Instruction} → Demand3 m t marks ls lifts held is → Demand3 n t marks ls lifts′ held′ is′ → held ≡ cannot → held′ ≡ cannot
   same-verdict D E e = E .always (some-mark D e) (D .never e)
 
-pub two-tables : (m n : MoveTable) (st : ReadingState) (k l : Key) → KeyOf m (accepted st) k → KeyOf n (accepted st) l → Alike k l
+pub two-tables : (m n : MoveTable) (st : ReadingState) (k l : Key Instruction) → KeyOf m (accepted st) k → KeyOf n (accepted st) l → Alike k l
 two-tables m n st (refusal number line) l K L = absurd K
 two-tables m n st (answers lifts held is) (refusal number line) K L = absurd L
 two-tables m n st (answers lifts held is) (answers lifts′ held′ is′) (t, e, D) (u, f, F) =
@@ -56,5 +56,5 @@ two-tables m n st (answers lifts held is) (answers lifts′ held′ is′) (t, e
 
 -- of every accepted sheet and accepted table: any key by the table has the lamps and the verdict of any key by ours
 pub same-as-ours : (sheet bytes : List ℕ) (st : ReadingState) (ps : List Formula) → reading sheet ≡ accepted st → loading bytes ≡ loaded ps
-    → (k l : Key) → KeyOf ours (reading sheet) k → KeyWith (loading bytes) (reading sheet) l → Alike k l
+    → (k l : Key Instruction) → KeyOf ours (reading sheet) k → KeyWith (loading bytes) (reading sheet) l → Alike k l
 same-as-ours sheet bytes st ps e f k l K L = two-tables ours (schoolTable ps) st k l (rw e at K) (rw (e, f) at L)

@@ -11,7 +11,8 @@ use Rattle.tree.specs.Writing.{over}
 use Rattle.moves.specs.Moves.{MoveTable}
 use Rattle.sheet.specs.Reading.{ReadingOutcome, accepted, refused}
 use Rattle.move_table.specs.Loading as table
-use Rattle.printing.specs.Key.{Key, refusal, answers, text}
+use Rattle.player.specs.Instructions.{Instruction}
+use Rattle.printing.specs.Key.{Key, refusal, answers, instructionRow, text}
 use Rattle.key.specs.Demand.{Demand3}
 use Rattle.key.specs.declared.KeyAnswer.{KeyAnswer}
 use Rattle.key.specs.declared.KeyAnswer.the-variants.{Written, Short}
@@ -23,13 +24,13 @@ keyBytes = 274691
 
 -- "It reads a sheet .. and prints `NO` number line, or: ..": a refusal for a sheet that reading refuses, and for one that it accepts
 -- a key that meets the third demand, by a move table
-abbrev pub KeyOf : MoveTable → ReadingOutcome → Key → Type 0
+abbrev pub KeyOf : MoveTable → ReadingOutcome → Key Instruction → Type 0
 KeyOf m (refused number line) k = k ≡ refusal number line
 KeyOf m (accepted st) (refusal number line) = ⊥
 KeyOf m (accepted st) (answers lifts held is) = (t : Tree) × (treeOf (st .entries) ≡ some t) × Demand3 m t (st .marks) (st .lifts) lifts held is
 
 -- by a school's table, from what loading it comes to; request 7 of 02: "a refused table prints only `NO` number line"
-abbrev pub KeyWith : table.Loaded → ReadingOutcome → Key → Type 0
+abbrev pub KeyWith : table.Loaded → ReadingOutcome → Key Instruction → Type 0
 KeyWith (table.refused number line) o k = k ≡ refusal number line
 KeyWith (table.loaded ps) o k = KeyOf (table.schoolTable ps) o k
 
@@ -40,13 +41,13 @@ keySays (Written count) = some (done (count ∷ []))
 keySays Short = none
 
 -- a key of which that holds was written, and nothing past it
-pub record WritesKey (IsKey : Key → Type 0) (out : List ℕ) (r : KeyAnswer) (out′ : List ℕ) : Type 0 where
-  pub key : Key
+pub record WritesKey (IsKey : Key Instruction → Type 0) (out : List ℕ) (r : KeyAnswer) (out′ : List ℕ) : Type 0 where
+  pub key : Key Instruction
   pub answers : IsKey key
-  pub says : keySays r ≡ some (done (length (text key) ∷ []))
-  pub written : out′ ≡ over (text key) out
+  pub says : keySays r ≡ some (done (length (text instructionRow key) ∷ []))
+  pub written : out′ ≡ over (text instructionRow key) out
 
 -- what a call promises that is to write such a key, for any buffer
-pub record KeyCall (IsKey : Key → Type 0) (out : List ℕ) (r : KeyAnswer) (out′ : List ℕ) : Type 0 where
+pub record KeyCall (IsKey : Key Instruction → Type 0) (out : List ℕ) (r : KeyAnswer) (out′ : List ℕ) : Type 0 where
   pub short : length out < keyBytes → (keySays r ≡ none) × (out′ ≡ out)
   pub long : keyBytes ≤ length out → WritesKey IsKey out r out′

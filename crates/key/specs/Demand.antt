@@ -2,7 +2,7 @@
 use mathlib.Core.Path.{_≡_}
 use mathlib.Core.Bool.{false}
 use mathlib.Core.List.{List, [], _++_}
-use Prim.Native.Nat.{ℕ, _≤_}
+use Prim.Native.Nat.{ℕ, _≤_, _<_}
 use lib.ListN.{length, drop}
 use Rattle.tree.specs.Tree.{Tree, size, mostNodes, Over, Equivalent, selected, isIn, groups}
 use Rattle.player.specs.Limits.{registerCount, byteCount}
@@ -12,8 +12,9 @@ use Rattle.player.specs.Bytes.{bytes}
 use Rattle.player.specs.Playing.{wrongPairCount, wrongPatch, Plays}
 use Rattle.player.specs.declared.Played.{Played}
 use Rattle.player.specs.declared.Played.the-variants.{Done}
-use Rattle.code.specs.Code.{code, codePlace, ownCode, runFirst, runCount}
-use Rattle.code.specs.Effects.{Every, Names, stretch, ClosedRun, LoadsApart}
+use Rattle.code.specs.Code.{code}
+use Rattle.code.specs.Effects.{Every, Names, newerEffect, stretch, ClosedRun, LoadsApart}
+use Rattle.code.specs.Runs.{runFirst, runCount}
 use Rattle.gather.specs.Gathering.{Gathered, CannotBeGathered}
 use Rattle.printing.specs.Key.{LiftAnswer, Held, unmarked, heldRun, cannot}
 use Rattle.moves.specs.Moves.{MoveTable}
@@ -39,11 +40,12 @@ pub record HeldCode (u : Tree) (marks : List ℕ) (first count : ℕ) (is : List
 -- others, and nowhere else": of that very tree, its holder and its code
 pub record HolderRun (u : Tree) (marks : List ℕ) (first count : ℕ) (is : List Instruction) : Type 0 where
   pub held : HeldCode u marks first count is
-  -- "its own instructions, unbroken"
-  pub unbroken : stretch is first count ≡ ownCode (held .gathered .holder) (held .gathered .above)
   -- it "hands on one" register, the holder's target
-  pub closed : ClosedRun is first count (codePlace (held .gathered .holder) (held .gathered .above) 0 .target)
-  pub apart : LoadsApart (isIn marks) is first count
+  pub register : ℕ
+  -- "its own instructions, unbroken"
+  pub unbroken : stretch is first count ≡ code (held .gathered .holder) register
+  pub closed : ClosedRun newerEffect is first count register
+  pub apart : LoadsApart newerEffect (isIn marks) is first count
 
 -- "Fed them, the player lights exactly the lamps that the tree as written selects, whichever lamps a patch that 01 allows gives
 -- the groups": whatever `play` answers and leaves, by its contract `Plays`
@@ -67,7 +69,7 @@ pub record Demand3 (m : MoveTable) (t : Tree) (marks : List ℕ) (ls : List Lift
   -- (c)
   pub lit : (held ≡ cannot → ⊥) → Lights t is
   -- (d) "No register above 12 is named."
-  pub registers : Every (Names 0 registerCount) is
+  pub registers : Every (Names newerEffect (λ q. q < registerCount)) is
   -- (f) "`HELD` 19, "cannot be gathered", is answered for a sheet with marks exactly when no tree of unions and differences, of any
   -- size and over any groups, selects the same lamps as the tree as written for all contents of the groups and is gathered for those marks." Request 6:
   -- "Gathering is now judged against trees that may use all three operators"

@@ -14,7 +14,7 @@ use Rattle.gather.specs.Gathering.{CannotBeGathered}
 use Rattle.moves.specs.Moves.{MoveTable}
 use Rattle.sheet.specs.Reading.{ReadingState, ReadingOutcome, accepted, reading, sheetOf}
 use Rattle.sheet.specs.declared.Sheet.{Sheet}
-use Rattle.printing.specs.Key.{Held, unmarked, heldRun, cannot, heldRows, instructionRows}
+use Rattle.printing.specs.Key.{Held, unmarked, heldRun, cannot, heldRows, instructionRow, instructionRows}
 use Rattle.lift_lines.specs.Inner.{IsList}
 use Rattle.key.specs.Demand.{HeldCode}
 use Rattle.key.specs.Call.{keyBytes, KeyOf}
@@ -47,7 +47,7 @@ MarkedTree tree marks out at = ((u : Tree) × IsList tree u × Markable u marks)
 -- the HELD line, if any, and the code
 pub record Finished (u : Tree) (marks out : List ℕ) (at : ℕ) (out′ : List ℕ) (next : ℕ) : Type 0 where
   pub ends : Ends u marks (heldBy u marks) (codeBy u marks)
-  pub wrote : Wrote out at out′ next (lines (heldRows (heldBy u marks) ++ instructionRows (codeBy u marks)))
+  pub wrote : Wrote out at out′ next (lines (heldRows (heldBy u marks) ++ instructionRows instructionRow (codeBy u marks)))
   pub most : next ≤ at + heldBytes + instructionBytes * mostNodes
 
 abbrev pub Finishes : (tree marks out : List ℕ) (at : ℕ) (out′ : List ℕ) (next : ℕ) → Type 0

@@ -18,7 +18,7 @@ use Rattle.moves.specs.Moves.{MoveTable, ours}
 use Rattle.sheet.specs.Rules.{Rules, sheetRules}
 use Rattle.sheet.specs.Reading.{ReadingState, ReadingOutcome, accepted, refused, readWith}
 use Rattle.move_table.specs.Loading as table
-use Rattle.printing.specs.Key.{Held, unmarked, heldRun, cannot, Key, refusal, answers, text}
+use Rattle.printing.specs.Key.{Held, unmarked, heldRun, cannot, Key, refusal, answers, instructionRow, text}
 use Rattle.lift_lines.specs.Lifting.{treeAfter, liftAnswers}
 use Rattle.key.specs.Call.{keyBytes, keySays}
 use Rattle.key.specs.declared.KeyAnswer.{KeyAnswer}
@@ -41,24 +41,24 @@ heldBy u (m ∷ marks) = heldIn (m ∷ marks) (gatheredBy u (m ∷ marks))
 -- "then the code of the tree after the lifts, with marks of the gathered one"
 abbrev pub codeBy : Tree → List ℕ → List Instruction
 codeBy u [] = code u 0
-codeBy u (m ∷ marks) = codeOfList (gatheredBy u (m ∷ marks))
+codeBy u (m ∷ marks) = codeOfList (λ t. code t 0) (gatheredBy u (m ∷ marks))
 
 -- ---- the whole
 -- of an accepted sheet by a table, by the tree that its entries are (and they are one)
-abbrev pub keyIn : MoveTable → ReadingState → Option Tree → Key
+abbrev pub keyIn : MoveTable → ReadingState → Option Tree → Key Instruction
 keyIn m st none = refusal 0 0
 keyIn m st (some t) =
     let u = treeAfter m t (st .lifts) in
     answers (liftAnswers m t (st .lifts)) (heldBy u (st .marks)) (codeBy u (st .marks))
 
 -- by what reading comes to
-abbrev pub keyFor : MoveTable → ReadingOutcome → Key
+abbrev pub keyFor : MoveTable → ReadingOutcome → Key Instruction
 keyFor m (refused number line) = refusal number line
 keyFor m (accepted st) = keyIn m st (treeOf (st .entries))
 
 -- the key's bytes
 unfoldable pub keyBy : MoveTable → ReadingOutcome → List ℕ
-keyBy m o = text (keyFor m o)
+keyBy m o = text instructionRow (keyFor m o)
 
 -- by our own table, of a sheet that is read by these rules, and by today's
 abbrev pub keyWith : Rules → List ℕ → List ℕ
@@ -68,12 +68,12 @@ abbrev pub keyOf : List ℕ → List ℕ
 keyOf sheet = keyWith sheetRules sheet
 
 -- by a school's table
-abbrev pub keyForSchool : table.Loaded → ReadingOutcome → Key
+abbrev pub keyForSchool : table.Loaded → ReadingOutcome → Key Instruction
 keyForSchool (table.refused number line) o = refusal number line
 keyForSchool (table.loaded ps) o = keyFor (table.schoolTable ps) o
 
 unfoldable pub schoolKeyOf : (bytes sheet : List ℕ) → List ℕ
-schoolKeyOf bytes sheet = text (keyForSchool (table.loading bytes) (readWith sheetRules sheet))
+schoolKeyOf bytes sheet = text instructionRow (keyForSchool (table.loading bytes) (readWith sheetRules sheet))
 
 -- where the buffer is long enough, it is these bytes that are written
 pub record KeyBy (bytes out : List ℕ) (r : KeyAnswer) (out′ : List ℕ) : Type 0 where

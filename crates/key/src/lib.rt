@@ -8,7 +8,7 @@ ghost use Rattle.code.specs.Code.{code as codeOf};
 ghost use Rattle.moves.specs.Moves.{MoveTable, ours};
 ghost use Rattle.moves.specs.InnerEntries.{TableIs, SomeTable};
 ghost use Rattle.sheet.specs.Reading.{ReadingState, accepted, reading};
-ghost use Rattle.printing.specs.Key.{instructionRows};
+ghost use Rattle.printing.specs.Key.{instructionRow, instructionRows};
 ghost use Rattle.move_table.specs.Loading.{loading};
 ghost use Rattle.key.specs.Call.{keyBytes, KeyOf, KeyWith, KeyCall};
 ghost use Rattle.key.specs.InnerKeyOf.{keyOf, schoolKeyOf, KeyBy};
@@ -21,7 +21,7 @@ pub const KEY_BYTES: usize = 274691;
 // Writes the code of a tree.
 fn put_tree_code(tree: &[u16], out: &mut [u8], at: usize) -> usize
     requires { ⌜ ((u : Tree) × IsList (now tree) u) × (at + instructionBytes * mostNodes ≤ length (now out)) ⌝ }
-    ensures { λ r. ⌜ ((u : Tree) → IsList (now (tree .entry)) u → Wrote (now (out .entry)) at (now (out .exit)) r (lines (instructionRows (codeOf u 0)))) ⌝ }
+    ensures { λ r. ⌜ ((u : Tree) → IsList (now (tree .entry)) u → Wrote (now (out .entry)) at (now (out .exit)) r (lines (instructionRows instructionRow (codeOf u 0)))) ⌝ }
 {
     let mut code = [0u16; coder::LEAST_BUFFER];
     let coded = coder::encode(tree, &mut code);

@@ -6,6 +6,7 @@ use Prim.Native.Nat.{_*_, _≤_, _<_}
 use native.Mathlib.Omega.{arith}
 use lib.Dec.{eqb}
 use lib.ListN.{length}
+use Rattle.common.specs.Fours.{fours}
 use Rattle.player.specs.Limits.{registerCount, lastGroup, outside}
 use Rattle.player.specs.Instructions.{Rig, Registers, Operation, add, cut, both, Instruction, load, operate, kindOf, loadKind, operationWith, step, run, numbers, numbersOf, instructions}
 
@@ -55,7 +56,7 @@ numbers-length (operate o target s t ∷ is) = omega (arith, numbers-length is)
 
 -- read again, they give the list
 pub instructions-numbers : (is : List Instruction) → instructions (numbersOf is) ≡ is
-unfolding instructions numbersOf
+unfolding fours numbersOf
 instructions-numbers [] = refl
 instructions-numbers (load target group ∷ is) = rw (instructions-numbers is)
 instructions-numbers (operate o target s t ∷ is) = rw (kind-not-load o, kind-read o, instructions-numbers is)

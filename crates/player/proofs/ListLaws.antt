@@ -8,7 +8,7 @@ use native.Mathlib.Omega.{arith}
 use borrow.Author.Tests.{eq-eqb, ne-eqb, eqb-true, eqb-false}
 use lib.Dec.{eqb}
 use lib.ListN.{length, getD, drop}
-use Rattle.common.proofs.ListLaws.{two-at, four-at}
+use Rattle.common.proofs.ListLaws.{two-at, four-at, fours-more, fours-end}
 use Rattle.player.specs.Instructions.{Rig, Registers, add, combined, put, empty, step, run, instruction, instructions}
 use Rattle.player.specs.Patches.{rig}
 use Rattle.player.specs.Playing.{wrongInstruction, wrongCode, wrongPair, wrongPatch}
@@ -34,8 +34,8 @@ module _ (l : List ℕ) (i k : ℕ) (e : i + 4 ≡ k) (h : k ≤ length l) where
 
   pub run-more : (G : Rig) (R : Registers)
       → run G (instructions (drop i l)) R ≡ run G (instructions (drop k l)) (step G (instruction (getD l i 0) (getD l (i + 1) 0) (getD l (i + 2) 0) (getD l (i + 3) 0)) R)
-  unfolding run instructions
-  run-more G R = rw (four-at l i k e h)
+  unfolding run
+  run-more G R = rw (fours-more instruction l i k e h)
 
 pub code-end : (l : List ℕ) → length l < 4 → wrongCode l ≡ false
 unfolding wrongCode
@@ -46,12 +46,8 @@ code-end (a ∷ b ∷ c ∷ []) h = refl
 code-end (a ∷ b ∷ c ∷ d ∷ l) h = absurd (omega arith)
 
 pub run-end : (l : List ℕ) (G : Rig) (R : Registers) → length l < 4 → run G (instructions l) R ≡ R
-unfolding instructions run
-run-end [] G R h = refl
-run-end (a ∷ []) G R h = refl
-run-end (a ∷ b ∷ []) G R h = refl
-run-end (a ∷ b ∷ c ∷ []) G R h = refl
-run-end (a ∷ b ∷ c ∷ d ∷ l) G R h = absurd (omega arith)
+unfolding run
+run-end l G R h = rw (fours-end instruction l h)
 
 -- ---- pairs
 pair-put : (S : Rig) (g n group lamp : ℕ) → put S g (combined add (eqb n) (S g)) group lamp ≡ ((eqb g group && eqb n lamp) || S group lamp)

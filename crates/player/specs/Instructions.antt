@@ -3,6 +3,7 @@ use mathlib.Core.Bool.{Bool, false, not, cond, _&&_, _||_}
 use mathlib.Core.List.{List, [], _∷_, _++_}
 use Prim.Native.Nat.{ℕ}
 use lib.Dec.{eqb}
+use Rattle.common.specs.Fours.{fours}
 
 -- A set of lamps, by lamp number.
 abbrev pub Lamps : Type 0
@@ -84,9 +85,5 @@ abbrev pub instruction : ℕ → ℕ → ℕ → ℕ → Instruction
 instruction kind target s t = cond (eqb kind loadKind) (load target s) (operate (operationWith kind) target s t)
 
 -- Numbers as a list of instructions; fault 22 leaves no rest.
-unfoldable pub instructions : List ℕ → List Instruction
-instructions [] = []
-instructions (a ∷ []) = []
-instructions (a ∷ b ∷ []) = []
-instructions (a ∷ b ∷ c ∷ []) = []
-instructions (a ∷ b ∷ c ∷ d ∷ rest) = instruction a b c d ∷ instructions rest
+abbrev pub instructions : List ℕ → List Instruction
+instructions code = fours instruction code

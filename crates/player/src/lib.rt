@@ -12,17 +12,17 @@ ghost use Rattle.player.specs.Limits.{registerCount, lastGroup, lastLamp
 ghost use Rattle.player.specs.Instructions.{Lamps, Rig, Registers, add, combined, empty, step, litLamps, operationWith, instruction, instructions};
 ghost use Rattle.player.specs.Patches.{rig};
 ghost use Rattle.player.specs.Bytes.{bytes};
-ghost use Rattle.player.specs.Playing.{wrongLength, wrongInstruction, wrongCode, wrongPairCount, wrongPair, wrongPatch, playFault, Plays};
+ghost use Rattle.player.specs.Playing.{wrongLength, wrongInstruction, wrongCode, wrongPairCount, wrongPair, wrongPatch, patchFault, playFault, Plays};
 ghost use Rattle.player.specs.InnerWords.{word, HoldsSet, HoldsSets, Indexed, HoldsGroups, Placed, Executable};
 
 // 01's limits: the registers, the last group (02's, request 4) and the last lamp, the bytes written, the instructions and the pairs.
-const REGISTERS: usize = 13;
+pub const REGISTERS: usize = 13;
 
-const GROUPS: usize = 60000;
+pub const GROUPS: usize = 60000;
 
 const LAMPS: usize = 512;
 
-const BYTES: usize = 64;
+pub const BYTES: usize = 64;
 
 const INSTRUCTIONS: usize = 8191;
 
@@ -41,10 +41,10 @@ pub const BOTH: u16 = 4;
 // The lamps of a word, and the words of a set.
 const WIDTH: usize = 64;
 
-const WORDS: usize = LAMPS / WIDTH;
+pub const WORDS: usize = LAMPS / WIDTH;
 
 // The places for sets: place 0, where the set is empty, for the groups that no pair names, and one for each pair.
-const PLACES: usize = PAIRS + 1;
+pub const PLACES: usize = PAIRS + 1;
 
 // The answer of `play`: done, or refused with the number of the first fault.
 pub enum Played {
@@ -53,11 +53,11 @@ pub enum Played {
 }
 
 // An instruction's four numbers; s is LOAD's group.
-struct Numbers {
-    kind: u16,
-    target: usize,
-    s: usize,
-    t: usize,
+pub struct Numbers {
+    pub kind: u16,
+    pub target: usize,
+    pub s: usize,
+    pub t: usize,
 }
 
 // The number at a position of code or patch.
@@ -69,7 +69,7 @@ fn number_at(list: &[u16], at: usize) -> usize
 }
 
 // The four numbers from the position `at` on.
-fn numbers_at(code: &[u16], at: usize) -> Numbers
+pub fn numbers_at(code: &[u16], at: usize) -> Numbers
     requires { ⌜ at + 4 ≤ length (now code) ⌝ }
     ensures { λ r. ⌜ (r .kind ≡ getD (now (code .entry)) at 0) × (r .target ≡ getD (now (code .entry)) (at + 1) 0)
         × (r .s ≡ getD (now (code .entry)) (at + 2) 0) × (r .t ≡ getD (now (code .entry)) (at + 3) 0) ⌝ }
@@ -133,7 +133,7 @@ fn give_place(index: &mut [u16; GROUPS + 1], given: usize, group: usize) -> usiz
 }
 
 // What the patch gives each group: the places of the groups that it names, and the sets at these places.
-fn load_groups(patch: &[u16], index: &mut [u16; GROUPS + 1], sets: &mut [[u64; WORDS]; PLACES])
+pub fn load_groups(patch: &[u16], index: &mut [u16; GROUPS + 1], sets: &mut [[u64; WORDS]; PLACES])
     requires { ⌜ (wrongPairCount (length (now patch)) ≡ false) × (wrongPatch (now patch) ≡ false) × Placed empty (now index) (now sets) 0 ⌝ }
     ensures { λ _. ⌜ Indexed (now (index .exit)) (now (sets .exit)) × HoldsGroups (now (index .exit)) (now (sets .exit)) (rig (now (patch .entry))) ⌝ }
 {
@@ -200,7 +200,7 @@ fn answer(code: &[u16], patch: &[u16]) -> [u64; WORDS]
 }
 
 // Writes a set into the first 64 bytes, the last byte first.
-fn write_bytes(words: [u64; WORDS], lamps: &mut [u8])
+pub fn write_bytes(words: [u64; WORDS], lamps: &mut [u8])
     requires { ⌜ byteCount ≤ length (now lamps) ⌝ }
     ensures { λ _. ⌜ ((f : Lamps) → HoldsSet words f → now (lamps .exit) ≡ bytes f ++ drop byteCount (now (lamps .entry))) ⌝ }
 {
@@ -212,17 +212,17 @@ fn write_bytes(words: [u64; WORDS], lamps: &mut [u8])
 }
 
 // Is x not one of lo to hi?
-fn outside(lo: usize, hi: usize, x: usize) -> bool
+pub fn outside(lo: usize, hi: usize, x: usize) -> bool
     ensures { λ r. ⌜ r ≡ outside lo hi x ⌝ }
 {
     (x < lo) | (hi < x)
 }
 
-// Fault 22 of a code of n numbers.
-fn wrong_length(n: usize) -> bool
-    ensures { λ r. ⌜ r ≡ wrongLength n ⌝ }
+// Fault 22 of a code of n numbers, for a device that takes so many instructions at most.
+pub fn wrong_length(n: usize, most: usize) -> bool
+    ensures { λ r. ⌜ r ≡ wrongLength most n ⌝ }
 {
-    (n == 0) | ((4 * INSTRUCTIONS < n) | (n % 4 != 0))
+    (n == 0) | ((most < n / 4) | (n % 4 != 0))
 }
 
 // Fault 23 of one instruction.
@@ -279,19 +279,10 @@ fn wrong_patch(patch: &[u16]) -> bool
     false
 }
 
-// The number of the first fault, 0 if there is none.
-fn fault(code: &[u16], patch: &[u16], lamps: &[u8]) -> u16
-    ensures { λ r. ⌜ r ≡ playFault (now (code .entry)) (now (patch .entry)) (now (lamps .entry)) ⌝ }
+// The number of a patch's first fault, 0 if there is none.
+pub fn patch_fault(patch: &[u16]) -> u16
+    ensures { λ r. ⌜ r ≡ patchFault (now (patch .entry)) ⌝ }
 {
-    if lamps.len() < BYTES {
-        return 21;
-    }
-    if wrong_length(code.len()) {
-        return 22;
-    }
-    if wrong_code(code) {
-        return 23;
-    }
     if wrong_pair_count(patch.len()) {
         return 24;
     }
@@ -299,6 +290,22 @@ fn fault(code: &[u16], patch: &[u16], lamps: &[u8]) -> u16
         return 25;
     }
     0
+}
+
+// The number of the first fault, 0 if there is none.
+fn fault(code: &[u16], patch: &[u16], lamps: &[u8]) -> u16
+    ensures { λ r. ⌜ r ≡ playFault (now (code .entry)) (now (patch .entry)) (now (lamps .entry)) ⌝ }
+{
+    if lamps.len() < BYTES {
+        return 21;
+    }
+    if wrong_length(code.len(), INSTRUCTIONS) {
+        return 22;
+    }
+    if wrong_code(code) {
+        return 23;
+    }
+    patch_fault(patch)
 }
 
 // Runs the code with what the patch gives the groups, and writes the lamps that are lit into the first 64 bytes of `lamps`;

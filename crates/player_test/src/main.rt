@@ -1,62 +1,14 @@
-// Plays the cases that 01 names in "The player", and request 6's BOTH. Before each, every byte holds 165. A line has the case, the
-// number answered, how many bytes still hold 165, and each other byte that is not 0, as position=value in hexadecimal.
+// Plays the cases that 01 names in "The player", and request 6's BOTH. Before each, every byte holds 165.
+use play_cases::BEFORE;
 use player::ADD;
 use player::BOTH;
 use player::CUT;
 use player::LOAD;
-use player::Played;
-
-const BEFORE: u8 = 165;
-
-// 01's number of an answer.
-fn number(answer: Played) -> u64 {
-    match answer {
-        Played::Done => 0,
-        Played::Refused(n) => n as u64,
-    }
-}
-
-// How many bytes are as before.
-fn unchanged(lamps: &[u8]) -> u64 {
-    let mut n = 0u64;
-    let mut i = 0;
-    while i < lamps.len() {
-        if lamps[i] == BEFORE {
-            n += 1;
-        }
-        i += 1;
-    }
-    n
-}
-
-// Prints a byte that has lamps lit.
-fn print_byte(position: usize, value: u8) {
-    if (value != 0) & (value != BEFORE) {
-        io::write_all(1, b" ");
-        io::print_decimal(1, position as u64);
-        io::write_all(1, b"=");
-        io::print_hex(1, value as u64, 2);
-    }
-}
-
-fn print_bytes(lamps: &[u8]) {
-    let mut i = 0;
-    while i < lamps.len() {
-        print_byte(i, lamps[i]);
-        i += 1;
-    }
-}
 
 // Plays one case and prints its line.
 fn show(label: &[u8], code: &[u16], patch: &[u16], lamps: &mut [u8]) {
     let answer = player::play(code, patch, lamps);
-    io::write_all(1, label);
-    io::write_all(1, b": ");
-    io::print_decimal(1, number(answer));
-    io::write_all(1, b", unchanged ");
-    io::print_decimal(1, unchanged(lamps));
-    print_bytes(lamps);
-    io::write_all(1, b"\n");
+    play_cases::report(label, answer, lamps);
 }
 
 // A case on 66 bytes.

@@ -3,7 +3,6 @@ use mathlib.Core.Path.{_≡_, refl, sym, ap, _∙_}
 use mathlib.Core.List.{List, [], _∷_, _++_, append-assoc, append-nil}
 use Prim.Native.Nat.{ℕ, _+_, _-_, _*_, _^_, _≤_, _<_}
 use native.Mathlib.Omega.{arith}
-use native.Mathlib.Nat.{add-assoc}
 use borrow.Author.Tests.{eq-eqb, ne-eqb}
 use lib.ListN.{length, getD, drop, length-append}
 use Rattle.tree.specs.InnerWriting.{Wrote}
@@ -13,11 +12,13 @@ use Rattle.text.specs.Line.{line, lines}
 use Rattle.text.specs.Inner.{field, fieldsAfter}
 use Rattle.text.proofs.DecimalLaws.{digits-length}
 use Rattle.text.proofs.LineLaws.{line-length}
-use Rattle.player.specs.Instructions.{Operation, add, cut, both, Instruction, load, operate, loadKind, kindOf, instruction, instructions}
-use Rattle.player.proofs.InstructionLaws.{WellFormed, AllWellFormed}
-use Rattle.common.proofs.ListLaws.{two-at}
+use Rattle.text.specs.Line.{Row}
+use Rattle.player.specs.Instructions.{Operation, add, cut, both, Instruction, load, operate, loadKind, kindOf, operationWith, instruction, numbersOf}
+use Rattle.player.proofs.InstructionLaws.{WellFormed, AllWellFormed, instructions-numbers}
+use Rattle.common.specs.Fours.{fours}
+use Rattle.common.proofs.ListLaws.{fours-more, fours-end}
 use Rattle.printing.specs.Key.{NO, LIFT, HELD, LOAD, ADD, CUT, BOTH, wordOf, instructionRow, instructionRows}
-use Rattle.printing.specs.Inner.{rowText}
+use Rattle.printing.specs.Inner.{rowText, rowOf, codeRows}
 
 -- ---- a loop that writes a text piece by piece: so far the front of `whole` is written, and `rest` is what is left of it
 pub record WroteUpTo (whole rest out : List ℕ) (at : ℕ) (out′ : List ℕ) (next : ℕ) : Type 0 where
@@ -49,42 +50,52 @@ module _ (kind target s t : ℕ) where
   pub load-text : kind ≡ loadKind → rowText (instructionRow (instruction kind target s t)) ≡ line LOAD (target ∷ s ∷ [])
   load-text e = rw (eq-eqb kind loadKind e)
 
-  pub add-text : kind ≡ kindOf add → rowText (instructionRow (instruction kind target s t)) ≡ line ADD (target ∷ s ∷ t ∷ [])
-  add-text e = rw e
+  pub operation-text : (kind ≡ loadKind → ⊥) → rowText (instructionRow (instruction kind target s t)) ≡ line (wordOf (operationWith kind)) (target ∷ s ∷ t ∷ [])
+  operation-text l = rw (ne-eqb kind loadKind l)
 
-  pub cut-text : kind ≡ kindOf cut → rowText (instructionRow (instruction kind target s t)) ≡ line CUT (target ∷ s ∷ t ∷ [])
-  cut-text e = rw e
+-- the word of an operation, by its kind
+module _ (kind : ℕ) where
+  pub add-word : kind ≡ kindOf add → wordOf (operationWith kind) ≡ ADD
+  add-word e = rw e
 
-  pub both-text : (kind ≡ loadKind → ⊥) → (kind ≡ kindOf add → ⊥) → (kind ≡ kindOf cut → ⊥)
-      → rowText (instructionRow (instruction kind target s t)) ≡ line BOTH (target ∷ s ∷ t ∷ [])
-  both-text l a c = rw (ne-eqb kind loadKind l, ne-eqb kind (kindOf add) a, ne-eqb kind (kindOf cut) c)
+  pub cut-word : kind ≡ kindOf cut → wordOf (operationWith kind) ≡ CUT
+  cut-word e = rw e
+
+  pub both-word : (kind ≡ kindOf add → ⊥) → (kind ≡ kindOf cut → ⊥) → wordOf (operationWith kind) ≡ BOTH
+  both-word a c = rw (ne-eqb kind (kindOf add) a, ne-eqb kind (kindOf cut) c)
 
 -- ---- one instruction more of a code
 abbrev pub codeText : List ℕ → List ℕ
-codeText code = lines (instructionRows (instructions code))
+codeText code = lines (codeRows code)
 
 pub code-text-next : (code : List ℕ) (i : ℕ) → 4 ≤ length code - i
-    → codeText (drop i code) ≡ rowText (instructionRow (instruction (getD code i 0) (getD code (i + 1) 0) (getD code (i + 2) 0) (getD code (i + 3) 0))) ++ codeText (drop (i + 4) code)
-unfolding lines instructionRows instructions
-code-text-next code i h =
-    let f : drop i code ≡ getD code i 0 ∷ getD code (i + 1) 0 ∷ getD code (i + 2) 0 ∷ getD code (i + 2 + 1) 0 ∷ drop (i + 4) code =
-    two-at code i (i + 2) refl (omega arith) ∙ ap (λ (l : List ℕ). getD code i 0 ∷ getD code (i + 1) 0 ∷ l) (two-at code (i + 2) (i + 4) (omega arith) (omega arith)) in
-    rw (f, add-assoc i 2 1)
+    → codeText (drop i code) ≡ rowText (rowOf (getD code i 0) (getD code (i + 1) 0) (getD code (i + 2) 0) (getD code (i + 3) 0)) ++ codeText (drop (i + 4) code)
+unfolding lines
+code-text-next code i h = rw (fours-more rowOf code i (i + 4) refl (omega arith))
 
 pub code-room : {out out₁ : List ℕ} {at next : ℕ} (code : List ℕ) (i : ℕ) → 4 ≤ length code - i → WroteUpTo (codeText code) (codeText (drop i code)) out at out₁ next
     → at + length (codeText code) ≤ length out
-    → next + length (rowText (instructionRow (instruction (getD code i 0) (getD code (i + 1) 0) (getD code (i + 2) 0) (getD code (i + 3) 0)))) ≤ length out₁
+    → next + length (rowText (rowOf (getD code i 0) (getD code (i + 1) 0) (getD code (i + 2) 0) (getD code (i + 3) 0))) ≤ length out₁
 code-room code i h w room =
-    up-to-room (codeText (drop i code)) (rowText (instructionRow (instruction (getD code i 0) (getD code (i + 1) 0) (getD code (i + 2) 0) (getD code (i + 3) 0)))) (codeText (drop (i + 4) code))
+    up-to-room (codeText (drop i code)) (rowText (rowOf (getD code i 0) (getD code (i + 1) 0) (getD code (i + 2) 0) (getD code (i + 3) 0))) (codeText (drop (i + 4) code))
     (code-text-next code i h) w room
 
 pub code-text-end : (code : List ℕ) → length code < 4 → codeText code ≡ []
-unfolding lines instructionRows instructions
-code-text-end [] h = refl
-code-text-end (a ∷ []) h = refl
-code-text-end (a ∷ b ∷ []) h = refl
-code-text-end (a ∷ b ∷ c ∷ []) h = refl
-code-text-end (a ∷ b ∷ c ∷ d ∷ l) h = absurd (omega arith)
+unfolding lines
+code-text-end code h = rw (fours-end rowOf code h)
+
+-- the lines of the numbers of instructions are the instructions' lines
+rows-of : {I : Type 0} (rowFor : I → Row) (instruction : ℕ → ℕ → ℕ → ℕ → I) (l : List ℕ)
+    → fours (λ a b c d. rowFor (instruction a b c d)) l ≡ instructionRows rowFor (fours instruction l)
+unfolding fours instructionRows
+rows-of rowFor f [] = refl
+rows-of rowFor f (a ∷ []) = refl
+rows-of rowFor f (a ∷ b ∷ []) = refl
+rows-of rowFor f (a ∷ b ∷ c ∷ []) = refl
+rows-of rowFor f (a ∷ b ∷ c ∷ d ∷ l) = ap (λ (rs : List Row). rowFor (f a b c d) ∷ rs) (rows-of rowFor f l)
+
+pub newer-rows : (is : List Instruction) → codeRows (numbersOf is) ≡ instructionRows instructionRow is
+newer-rows is = rows-of instructionRow instruction (numbersOf is) ∙ ap (instructionRows instructionRow) (instructions-numbers is)
 
 -- ---- how long lines are at most
 line-two : (word : List ℕ) (a b : ℕ) → length (line word (a ∷ b ∷ [])) ≡ length word + length (digits a) + length (digits b) + 3
@@ -108,10 +119,10 @@ instruction-most (load target group) w =
 instruction-most (operate o target s t) w =
     omega (arith, word-most o, line-three (wordOf o) target s t, digits-length 1 target (omega (arith, w .0)), digits-length 1 s (omega (arith, w .1)), digits-length 1 t (omega (arith, w .2)))
 
-pub code-most : (is : List Instruction) → AllWellFormed is → length (lines (instructionRows is)) ≤ 14 * length is
+pub code-most : (is : List Instruction) → AllWellFormed is → length (lines (instructionRows instructionRow is)) ≤ 14 * length is
 unfolding lines instructionRows AllWellFormed
 code-most [] w = omega arith
-code-most (i ∷ is) w = omega (arith, instruction-most i (w .0), code-most is (w .1), length-append (rowText (instructionRow i)) (lines (instructionRows is)))
+code-most (i ∷ is) w = omega (arith, instruction-most i (w .0), code-most is (w .1), length-append (rowText (instructionRow i)) (lines (instructionRows instructionRow is)))
 
 -- a LIFT line: at most 16
 pub lift-most : (number position looks : ℕ) → number < 100 → position < 10 ^ 4 → looks < 100 → length (line LIFT (number ∷ position ∷ looks ∷ [])) ≤ 16

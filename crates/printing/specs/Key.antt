@@ -17,9 +17,10 @@ pub data Held : Type 0 where
   cannot : Held
 
 -- "It .. prints `NO` number line, or: per lift ..; with marks ..; then the code"
-pub data Key : Type 0 where
-  refusal : (number line : ℕ) → Key
-  answers : List LiftAnswer → Held → List Instruction → Key
+-- of a device with these instructions
+pub data Key (I : Type 0) : Type 0 where
+  refusal : (number line : ℕ) → Key I
+  answers : List LiftAnswer → Held → List I → Key I
 
 -- ---- the words that lines begin with
 abbrev pub NO : List ℕ
@@ -73,16 +74,18 @@ abbrev pub instructionRow : Instruction → Row
 instructionRow (load target group) = row LOAD (target ∷ group ∷ [])
 instructionRow (operate o target s t) = row (wordOf o) (target ∷ s ∷ t ∷ [])
 
--- "then the code"
-unfoldable pub instructionRows : List Instruction → List Row
-instructionRows [] = []
-instructionRows (i ∷ is) = instructionRow i ∷ instructionRows is
+-- ---- a whole key, of a device whose instructions have these lines
+module _ {I : Type 0} (rowFor : I → Row) where
+  -- "then the code"
+  unfoldable pub instructionRows : List I → List Row
+  instructionRows [] = []
+  instructionRows (i ∷ is) = rowFor i ∷ instructionRows is
 
--- "It .. prints `NO` number line, or: per lift ..; with marks ..; then the code"
-abbrev pub rowsOf : Key → List Row
-rowsOf (refusal number line) = row NO (number ∷ line ∷ []) ∷ []
-rowsOf (answers ls held is) = liftRows ls ++ (heldRows held ++ instructionRows is)
+  -- "It .. prints `NO` number line, or: per lift ..; with marks ..; then the code"
+  abbrev pub rowsOf : Key I → List Row
+  rowsOf (refusal number line) = row NO (number ∷ line ∷ []) ∷ []
+  rowsOf (answers ls held is) = liftRows ls ++ (heldRows held ++ instructionRows is)
 
--- "The key is the bytes handed to printing": "Fields are parted by one tab and lines end in LF"
-unfoldable pub text : Key → List ℕ
-text k = lines (rowsOf k)
+  -- "The key is the bytes handed to printing": "Fields are parted by one tab and lines end in LF"
+  unfoldable pub text : Key I → List ℕ
+  text k = lines (rowsOf k)

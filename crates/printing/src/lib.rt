@@ -2,13 +2,27 @@
 ghost use Prim.Native.Nat.{_+_, _≤_};
 ghost use lib.ListN.{length};
 ghost use Rattle.tree.specs.InnerWriting.{Wrote};
-ghost use Rattle.text.specs.Line.{lines};
-ghost use Rattle.player.specs.Instructions.{instruction, instructions};
-ghost use Rattle.printing.specs.Key.{instructionRow, instructionRows};
-ghost use Rattle.printing.specs.Inner.{rowText};
+ghost use Rattle.text.specs.Line.{line, lines};
+ghost use Rattle.player.specs.Instructions.{operationWith, instruction};
+ghost use Rattle.printing.specs.Key.{wordOf, instructionRow};
+ghost use Rattle.printing.specs.Inner.{rowText, codeRows};
 
-// Writes the line of an instruction, LOAD's last number left out.
-fn put_instruction(kind: u16, target: u16, s: u16, t: u16, out: &mut [u8], at: usize) -> usize
+// Writes the line of an operation with the numbers that a device has in it.
+fn put_operation(kind: u16, numbers: &[usize], out: &mut [u8], at: usize) -> usize
+    requires { ⌜ at + length (line (wordOf (operationWith kind)) (now numbers)) ≤ length (now out) ⌝ }
+    ensures { λ r. ⌜ Wrote (now (out .entry)) at (now (out .exit)) r (line (wordOf (operationWith kind)) (now (numbers .entry))) ⌝ }
+{
+    if kind == player::ADD {
+        return text::put_line(b"ADD", numbers, out, at);
+    }
+    if kind == player::CUT {
+        return text::put_line(b"CUT", numbers, out, at);
+    }
+    text::put_line(b"BOTH", numbers, out, at)
+}
+
+// Writes the line of an instruction of 01's player, LOAD's last number left out.
+fn put_newer(kind: u16, target: u16, s: u16, t: u16, out: &mut [u8], at: usize) -> usize
     requires { ⌜ at + length (rowText (instructionRow (instruction kind target s t))) ≤ length (now out) ⌝ }
     ensures { λ r. ⌜ Wrote (now (out .entry)) at (now (out .exit)) r (rowText (instructionRow (instruction kind target s t))) ⌝ }
 {
@@ -18,24 +32,18 @@ fn put_instruction(kind: u16, target: u16, s: u16, t: u16, out: &mut [u8], at: u
     if kind == player::LOAD {
         return text::put_line(b"LOAD", &[a, b], out, at);
     }
-    if kind == player::ADD {
-        return text::put_line(b"ADD", &[a, b, c], out, at);
-    }
-    if kind == player::CUT {
-        return text::put_line(b"CUT", &[a, b, c], out, at);
-    }
-    text::put_line(b"BOTH", &[a, b, c], out, at)
+    put_operation(kind, &[a, b, c], out, at)
 }
 
 // Writes the lines of a code's instructions, four numbers each.
 pub fn put_code(code: &[u16], out: &mut [u8], at: usize) -> usize
-    requires { ⌜ at + length (lines (instructionRows (instructions (now code)))) ≤ length (now out) ⌝ }
-    ensures { λ r. ⌜ Wrote (now (out .entry)) at (now (out .exit)) r (lines (instructionRows (instructions (now (code .entry))))) ⌝ }
+    requires { ⌜ at + length (lines (codeRows (now code))) ≤ length (now out) ⌝ }
+    ensures { λ r. ⌜ Wrote (now (out .entry)) at (now (out .exit)) r (lines (codeRows (now (code .entry)))) ⌝ }
 {
     let mut i = 0;
     let mut next = at;
     while 4 <= code.len() - i {
-        next = put_instruction(code[i], code[i + 1], code[i + 2], code[i + 3], out, next);
+        next = put_newer(code[i], code[i + 1], code[i + 2], code[i + 3], out, next);
         i += 4;
     }
     next

@@ -10,9 +10,10 @@ use borrow.Fn.PlainCycle.{Measures, is, falls, and}
 use Rattle.coder.proofs.write_node.Reads as write-node
 use Rattle.coder.proofs.write_node.Kinds as write-node-kinds
 use Rattle.coder.proofs.+write_node.Lts-write_node as write-node-lts
-use Rattle.coder.proofs.children_of.Reads as children-of-reads
-use Rattle.coder.proofs.kind_of.Reads as kind-of-reads
-use Rattle.coder.proofs.put.Reads as put-reads
+use Rattle.notes.proofs.children_of.Reads as children-of-reads
+use Rattle.notes.proofs.kind_of.Reads as kind-of-reads
+use Rattle.notes.proofs.pick.Reads as pick-reads
+use Rattle.notes.proofs.put.Reads as put-reads
 use Rattle.coder.proofs.+write_node.{statement}
 use Rattle.coder.proofs.+write_node.Tie.{close}
 
@@ -36,6 +37,8 @@ calls t = (
   children-of-reads.Learnt,
   write-node-below t,
   write-node.Post,
+  pick-reads.Asked,
+  pick-reads.Learnt,
   kind-of-reads.Asked,
   kind-of-reads.Learnt,
 )
@@ -58,7 +61,7 @@ write-node-returns : (t : ℕ) → write-node-lts.Need-returns (calls t) (write-
 write-node-returns t c = writes-leaf _ _ _ (c .before .before .before .before .if1 .taken) (c .before .before .put .ensures)
 
 write-node-children-of-requires : (t : ℕ) → write-node-lts.Need-children-of-requires (calls t) (write-node-at t) write-node.Post
-write-node-children-of-requires t c κs = let I = inner-node (c .before .before .before .before .pre .1) (c .if1 .left) in (I .0, omega arith)
+write-node-children-of-requires t c κs = inner-node (c .before .before .before .before .pre .1) (c .if1 .left) .0
 
 write-node-add-other : (t : ℕ) → write-node-lts.Need-add-other (calls t) (write-node-at t) write-node.Post
 write-node-add-other t c = let I = inner-node (c .before .before .before .before .before .pre .1) (c .before .if1 .left) in omega arith
@@ -75,31 +78,34 @@ write-node-write-node-requires-2 t c κs =
     let R = ready (pre .1) (c .before .before .before .before .before .before .if1 .left) (c .before .before .before .before .before .children-of .ensures) in
     (omega (arith, pre .0, R .less-two), R .second-call _ _ (c .before .before .before .write-node .ensures))
 
+write-node-pick-requires : (t : ℕ) → write-node-lts.Need-pick-requires (calls t) (write-node-at t) write-node.Post
+write-node-pick-requires t c κs = search needs
+
+write-node-pick-requires-2 : (t : ℕ) → write-node-lts.Need-pick-requires-2 (calls t) (write-node-at t) write-node.Post
+write-node-pick-requires-2 t c κs = search needs
+
 write-node-kind-of-requires : (t : ℕ) → write-node-lts.Need-kind-of-requires (calls t) (write-node-at t) write-node.Post
 write-node-kind-of-requires t c κs = search needs
 
 write-node-put-requires-2 : (t : ℕ) → write-node-lts.Need-put-requires-2 (calls t) (write-node-at t) write-node.Post
 write-node-put-requires-2 t c κs =
-    let W = c .before .before .before .before .before .before .before .before .before .before .before .before .before .before .before .pre .1 in
-    let if1 = c .before .before .before .before .before .before .before .before .before .before .before .if1 in
-    let children-of = c .before .before .before .before .before .before .before .before .before .before .children-of in
-    let write-first = c .before .before .before .before .before .before .before .before .write-node in
-    ready W (if1 .left) (children-of .ensures) .own-room _ _ _ _ (write-first .ensures) (c .before .before .before .before .write-node2 .ensures)
+    let W = c .before .before .before .before .before .before .before .before .before .before .before .before .before .before .before .before .before .pre .1 in
+    ready W (c .before .before .before .before .before .before .before .before .before .before .before .before .before .if1 .left) (c .before .before .before .before .before .before .before .before .before .before .before .before .children-of .ensures) .own-room _ _ _ _ (c .before .before .before .before .before .before .before .before .before .before .write-node .ensures) (c .before .before .before .before .before .before .write-node2 .ensures)
 
 write-node-same-length-2 : (t : ℕ) → write-node-lts.Need-same-length-2 (calls t) (write-node-at t) write-node.Post
 write-node-same-length-2 t c =
-    let write-first = c .before .before .before .before .before .before .before .before .before .before .before .write-node in
-    let write-second = c .before .before .before .before .before .before .before .write-node2 in
+    let write-first = c .before .before .before .before .before .before .before .before .before .before .before .before .before .write-node in
+    let write-second = c .before .before .before .before .before .before .before .before .before .write-node2 in
     c .before .before .put2 .kept .0 ∙ write-second .kept .1 .1 .1 .1 .1 .0 ∙ write-first .kept .1 .1 .1 .1 .1 .0
 
 write-node-returns-2 : (t : ℕ) → write-node-lts.Need-returns-2 (calls t) (write-node-at t) write-node.Post
 write-node-returns-2 t c =
-    let W = c .before .before .before .before .before .before .before .before .before .before .before .before .before .before .before .before .before .before .pre .1 in
-    let if1 = c .before .before .before .before .before .before .before .before .before .before .before .before .before .before .if1 in
-    let children-of = c .before .before .before .before .before .before .before .before .before .before .before .before .before .children-of in
-    let write-first = c .before .before .before .before .before .before .before .before .before .before .before .write-node in
-    let write-second = c .before .before .before .before .before .before .before .write-node2 in
-    writes-node W (if1 .left) (children-of .ensures) (write-first .ensures) (write-second .ensures) (c .before .before .before .kind-of .ensures) (c .before .before .put2 .ensures)
+    let W = c .before .before .before .before .before .before .before .before .before .before .before .before .before .before .before .before .before .before .before .before .pre .1 in
+    let if1 = c .before .before .before .before .before .before .before .before .before .before .before .before .before .before .before .before .if1 in
+    let children-of = c .before .before .before .before .before .before .before .before .before .before .before .before .before .before .before .children-of in
+    let write-first = c .before .before .before .before .before .before .before .before .before .before .before .before .before .write-node in
+    let write-second = c .before .before .before .before .before .before .before .before .before .write-node2 in
+    writes-node W (if1 .left) (children-of .ensures) (c .before .before .before .before .before .before .pick .ensures) (c .before .before .before .before .before .pick2 .ensures) (write-first .ensures) (write-second .ensures) (c .before .before .before .kind-of .ensures) (c .before .before .put2 .ensures)
 
 pub +write-node-spec : {M : Type 1} → statement M
 +write-node-spec = close μ-write-node λ t. write-node-lts.spec (calls t)
@@ -114,6 +120,8 @@ pub +write-node-spec : {M : Type 1} → statement M
     (write-node-add-other t)
     (write-node-write-node-requires t)
     (write-node-write-node-requires-2 t)
+    (write-node-pick-requires t)
+    (write-node-pick-requires-2 t)
     (write-node-kind-of-requires t)
     (write-node-put-requires-2 t)
     (write-node-same-length-2 t)

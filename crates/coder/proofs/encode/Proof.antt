@@ -2,13 +2,13 @@
 use mathlib.Core.Path.{refl, sym, _∙_}
 use native.Mathlib.Omega.{arith}
 use Rattle.tree.proofs.ParseLaws.{tree-some}
-use Rattle.coder.proofs.CodingLaws.{root-writable, too-short, not-a-tree, all-written}
+use Rattle.coder.proofs.CodingLaws.{root-writable, too-short, not-a-tree, code-written}
 use borrow.Author.Needs.{needs}
 use Rattle.coder.proofs.encode.Statement.{statement}
 use Rattle.coder.proofs.encode.Tie as tie
 
 returns : tie.Need-returns
-returns c = too-short _ _ (c .if1 .taken)
+returns c = too-short _ _ _ _ _ (c .if1 .taken)
 
 is-tree-requires : tie.Need-is-tree-requires
 is-tree-requires c κs = search needs
@@ -40,10 +40,10 @@ returns-2 c =
     let if1 = c .before .before .before .before .before .before .before .before .before .before .before .if1 in
     let is-tree = c .before .before .before .before .before .before .before .before .before .before .is-tree in
     let if2 = c .before .before .before .before .before .before .before .before .before .if2 in
-    all-written _ _ (if1 .left) (sym (is-tree .ensures) ∙ if2 .taken) (c .before .before .write-node .ensures)
+    code-written (if1 .left) (sym (is-tree .ensures) ∙ if2 .taken) (c .before .before .write-node .ensures)
 
 returns-3 : tie.Need-returns-3
-returns-3 c = not-a-tree _ _ (c .before .before .if1 .left) (sym (c .before .is-tree .ensures) ∙ c .if2 .left)
+returns-3 c = not-a-tree _ _ _ _ _ (c .before .before .if1 .left) (sym (c .before .is-tree .ensures) ∙ c .if2 .left)
 
 pub encode-spec : {M : Type 1} → statement M
 encode-spec =

@@ -1,7 +1,7 @@
 -- Each of the four answers by the law for that side and order.
 use denote.Ref.{now}
 use native.Mathlib.Omega.{arith}
-use Rattle.coder.proofs.NoteLaws.{stepped-left-first, stepped-right-second, stepped-left-second, stepped-right-first}
+use Rattle.coder.proofs.CodingLaws.{stepped-left-first, stepped-right-second, stepped-left-second, stepped-right-first}
 use borrow.Author.Needs.{needs}
 use Rattle.coder.proofs.step_down.Statement.{statement}
 use Rattle.coder.proofs.step_down.Tie as tie

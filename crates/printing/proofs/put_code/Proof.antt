@@ -18,41 +18,41 @@ loop-holds c = (omega arith, up-to-start (codeText (c .before .before .args .cod
 sub-loop : tie.Need-sub-loop Inv-loop μ-loop
 sub-loop c = search needs
 
-mul-put-instruction : tie.Need-mul-put-instruction Inv-loop μ-loop
-mul-put-instruction c = search needs
+mul-put-newer : tie.Need-mul-put-newer Inv-loop μ-loop
+mul-put-newer c = search needs
 
-shared-slice-read-put-instruction : tie.Need-shared-slice-read-put-instruction Inv-loop μ-loop
-shared-slice-read-put-instruction c = search needs
+shared-slice-read-put-newer : tie.Need-shared-slice-read-put-newer Inv-loop μ-loop
+shared-slice-read-put-newer c = search needs
 
-add-put-instruction : tie.Need-add-put-instruction Inv-loop μ-loop
-add-put-instruction c = search needs
+add-put-newer : tie.Need-add-put-newer Inv-loop μ-loop
+add-put-newer c = search needs
 
-mul-put-instruction-2 : tie.Need-mul-put-instruction-2 Inv-loop μ-loop
-mul-put-instruction-2 c = search needs
+mul-put-newer-2 : tie.Need-mul-put-newer-2 Inv-loop μ-loop
+mul-put-newer-2 c = search needs
 
-shared-slice-read-put-instruction-2 : tie.Need-shared-slice-read-put-instruction-2 Inv-loop μ-loop
-shared-slice-read-put-instruction-2 c = search needs
+shared-slice-read-put-newer-2 : tie.Need-shared-slice-read-put-newer-2 Inv-loop μ-loop
+shared-slice-read-put-newer-2 c = search needs
 
-add-put-instruction-2 : tie.Need-add-put-instruction-2 Inv-loop μ-loop
-add-put-instruction-2 c = search needs
+add-put-newer-2 : tie.Need-add-put-newer-2 Inv-loop μ-loop
+add-put-newer-2 c = search needs
 
-mul-put-instruction-3 : tie.Need-mul-put-instruction-3 Inv-loop μ-loop
-mul-put-instruction-3 c = search needs
+mul-put-newer-3 : tie.Need-mul-put-newer-3 Inv-loop μ-loop
+mul-put-newer-3 c = search needs
 
-shared-slice-read-put-instruction-3 : tie.Need-shared-slice-read-put-instruction-3 Inv-loop μ-loop
-shared-slice-read-put-instruction-3 c = search needs
+shared-slice-read-put-newer-3 : tie.Need-shared-slice-read-put-newer-3 Inv-loop μ-loop
+shared-slice-read-put-newer-3 c = search needs
 
-add-put-instruction-3 : tie.Need-add-put-instruction-3 Inv-loop μ-loop
-add-put-instruction-3 c = search needs
+add-put-newer-3 : tie.Need-add-put-newer-3 Inv-loop μ-loop
+add-put-newer-3 c = search needs
 
-mul-put-instruction-4 : tie.Need-mul-put-instruction-4 Inv-loop μ-loop
-mul-put-instruction-4 c = search needs
+mul-put-newer-4 : tie.Need-mul-put-newer-4 Inv-loop μ-loop
+mul-put-newer-4 c = search needs
 
-shared-slice-read-put-instruction-4 : tie.Need-shared-slice-read-put-instruction-4 Inv-loop μ-loop
-shared-slice-read-put-instruction-4 c = search needs
+shared-slice-read-put-newer-4 : tie.Need-shared-slice-read-put-newer-4 Inv-loop μ-loop
+shared-slice-read-put-newer-4 c = search needs
 
-put-instruction-requires : tie.Need-put-instruction-requires Inv-loop μ-loop
-put-instruction-requires c κs =
+put-newer-requires : tie.Need-put-newer-requires Inv-loop μ-loop
+put-newer-requires c κs =
     let args = c .before .before .before .before .before .before .before .before .before .args in
     let pre = c .before .before .before .before .before .before .before .before .before .pre in
     let loop = c .before .before .before .before .before .before .loop in
@@ -70,7 +70,7 @@ loop-again c =
     let args = c .before .before .before .before .before .before .before .before .before .before .before .before .args in
     let loop = c .before .before .before .before .before .before .before .before .before .loop in
     let loop-test = c .before .before .before .before .before .before .before .before .loop-test in
-    (omega arith, up-to-next _ (code-text-next (args .code .now) (loop .i) (loop-test .taken)) (loop .inv .1) (c .before .before .put-instruction .ensures))
+    (omega arith, up-to-next _ (code-text-next (args .code .now) (loop .i) (loop-test .taken)) (loop .inv .1) (c .before .before .put-newer .ensures))
 
 same-length : tie.Need-same-length Inv-loop μ-loop
 same-length c = c .before .loop .inv .1 .wrote .same
@@ -88,18 +88,18 @@ put-code-spec =
     μ-loop
     loop-holds
     sub-loop
-    mul-put-instruction
-    shared-slice-read-put-instruction
-    add-put-instruction
-    mul-put-instruction-2
-    shared-slice-read-put-instruction-2
-    add-put-instruction-2
-    mul-put-instruction-3
-    shared-slice-read-put-instruction-3
-    add-put-instruction-3
-    mul-put-instruction-4
-    shared-slice-read-put-instruction-4
-    put-instruction-requires
+    mul-put-newer
+    shared-slice-read-put-newer
+    add-put-newer
+    mul-put-newer-2
+    shared-slice-read-put-newer-2
+    add-put-newer-2
+    mul-put-newer-3
+    shared-slice-read-put-newer-3
+    add-put-newer-3
+    mul-put-newer-4
+    shared-slice-read-put-newer-4
+    put-newer-requires
     add-i
     loop-less
     loop-again
