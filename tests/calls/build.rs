@@ -1,7 +1,7 @@
 //! Links the static library that the environment names.
 
-/// The call that came with request 7. A library without it can still be timed.
-const LIFT_WITH: &[u8] = b"lift_with_call";
+/// Calls that came with a request, and what is set where the library has them. One without them can still be timed.
+const LATER_CALLS: [(&str, &str); 2] = [("lift_with_call", "has_lift_with"), ("older_play_call", "has_older")];
 
 fn main() {
     println!("cargo:rerun-if-env-changed=STATIC_LIBRARY");
@@ -10,9 +10,11 @@ fn main() {
     };
     println!("cargo:rerun-if-changed={library}");
     println!("cargo:rustc-link-arg-bins={library}");
-    println!("cargo:rustc-check-cfg=cfg(has_lift_with)");
     let bytes = std::fs::read(&library).unwrap_or_default();
-    if bytes.windows(LIFT_WITH.len()).any(|name| name == LIFT_WITH) {
-        println!("cargo:rustc-cfg=has_lift_with");
+    for (call, setting) in LATER_CALLS {
+        println!("cargo:rustc-check-cfg=cfg({setting})");
+        if bytes.windows(call.len()).any(|name| name == call.as_bytes()) {
+            println!("cargo:rustc-cfg={setting}");
+        }
     }
 }

@@ -33,7 +33,7 @@ unfolding Every
 every-implies f [] p = tt
 every-implies f (x ∷ xs) p = (f x (p .0), every-implies f xs (p .1))
 
--- ---- how the instructions of a device run; for 01's player it holds by computing
+-- ---- how the instructions of a device run; for each of the two it holds by computing
 pub record Runs {I B : Type 0} (d : Device I) (rig : Rig) (run : List I → Registers → B) : Type 0 where
   pub loads : (r g : ℕ) (is : List I) (R : Registers) → run (d .loads r g ∷ is) R ≡ run is (put R r (rig g))
   pub operates : (o : Operator) (f : Bool) (p q : ℕ) (is : List I) (R : Registers)

@@ -1,4 +1,4 @@
--- The theorems about the code of a tree for any device; NewerLaws has what they are for 01's player.
+-- The theorems about the code of a tree for any device; Devices has what they are for the two.
 use mathlib.Core.Path.{_≡_, refl, sym, ap, _∙_}
 use mathlib.Core.Bool.{Bool, true, false, not, false≢true}
 use mathlib.Core.List.{List, [], _++_, append-assoc}

@@ -2,12 +2,12 @@
 use mathlib.Core.Path.{_≡_, refl, sym, ap, _∙_}
 use mathlib.Core.Bool.{Bool, true, false, _||_, false≢true}
 use mathlib.Core.List.{List, [], _∷_}
-use Prim.Native.Nat.{ℕ, zero, suc, _+_, _≤_, _<_}
+use Prim.Native.Nat.{ℕ, zero, suc, _+_, _≤_}
 use native.Mathlib.Omega.{arith}
 use borrow.Author.Tests.{eq-eqb, eqb-false}
 use native.Mathlib.Numerals.{add-one}
 use lib.Dec.{eqb, eqb·suc-zero, eqb·zero-suc, eqb·suc-suc}
-use lib.ListN.{length, getD, set, replicate}
+use lib.ListN.{getD, replicate}
 use Rattle.code.specs.Waiting.{lowest, alsoIn}
 use Rattle.code.specs.InnerWaiting.{waiting}
 
@@ -66,14 +66,7 @@ also-still w r q e = also-waits w r q ∙ go (eqb q r)
     go true = refl
     go false = e
 
--- in an array that has the register, it is one entry stored
-pub also-set : (w : List Bool) (r : ℕ) → r < length w → alsoIn w r ≡ set w r true
-unfolding alsoIn
-also-set [] r h = absurd (omega arith)
-also-set (x ∷ w) zero h = refl
-also-set (x ∷ w) (suc r) h = ap (λ (v : List Bool). x ∷ v) (also-set w r (omega arith))
-
--- ---- two lists may say the same: an array has an entry for each register, where none waits too
+-- ---- two lists may say the same: one may have an entry for a register where none waits, and the other end before it
 pub record Alike (w v : List Bool) : Type 0 where
   pub same : (q : ℕ) → waits w q ≡ waits v q
 
@@ -92,7 +85,7 @@ lowest-alike (true ∷ w) (true ∷ v) h = ap (λ (n : ℕ). n + 1) (lowest-alik
 pub also-alike : (w v : List Bool) (r : ℕ) → Alike w v → Alike (alsoIn w r) (alsoIn v r)
 also-alike w v r h = record { same = λ q. also-waits w r q ∙ ap (λ (b : Bool). eqb q r || b) (h .same q) ∙ sym (also-waits v r q) }
 
--- an array where none waits
+-- no operand waits
 pub none-alike : (n : ℕ) → Alike (replicate n false) []
 none-alike zero = record { same = λ q. refl }
 none-alike (suc n) = record { same = go n (none-alike n) }

@@ -1,4 +1,5 @@
--- What it takes of a device for the theorems on need, registers, the closed run and loads. 01's player has it by computing.
+-- What it takes of a device for the theorems on need, registers, the closed run and loads: request 8's "one shared proof about need and
+-- not one for each device". Each of the two devices has it by computing.
 use mathlib.Core.Path.{_≡_}
 use mathlib.Core.Bool.{Bool, false, cond}
 use Prim.Native.Nat.{ℕ, _<_}

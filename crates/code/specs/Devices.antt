@@ -1,9 +1,10 @@
--- The code of a tree for a device, and 01's player as one.
+-- The code of a tree for a device, and the two devices.
 use mathlib.Core.Bool.{Bool, true, cond}
 use mathlib.Core.List.{List, [], _∷_, _++_}
 use Prim.Native.Nat.{ℕ, _+_}
 use Rattle.tree.specs.Tree.{Operator, Tree}
 use Rattle.player.specs.Instructions as newer
+use Rattle.older_player.specs.Instructions as older
 use Rattle.code.specs.Code.{operation}
 use Rattle.code.specs.Need.{inOrder}
 use Rattle.code.specs.Waiting.{lowest, alsoIn}
@@ -49,4 +50,14 @@ newerPlayer = record {
   operates = λ o f p q. newer.operate (operation o) p (cond f p q) (cond f q p);
   keepsFirst = λ f. true;
   ends = λ r. [];
+}
+
+-- "ADD, CUT and BOTH name the left operand's register, then the right's"; "the first is changed by the second"; "a last line SHOW names
+-- the register with the answer"
+abbrev pub olderPlayer : Device older.Instruction
+olderPlayer = record {
+  loads = λ r g. older.load r g;
+  operates = λ o f p q. older.change (operation o) (cond f p q) (cond f q p);
+  keepsFirst = λ f. f;
+  ends = λ r. older.show r ∷ [];
 }

@@ -6,6 +6,7 @@ use Prim.Native.Nat.{ℕ, _+_, _-_, _≤_}
 use lib.ListN.{length, take, drop}
 use Rattle.tree.specs.Tree.{isIn}
 use Rattle.player.specs.Instructions as newer
+use Rattle.older_player.specs.Instructions as older
 
 -- the registers that an instruction reads and writes, and the groups that it loads
 pub record Effect : Type 0 where
@@ -24,6 +25,12 @@ operateEffect target s t = record { reads = s ∷ t ∷ []; writes = target ∷ 
 abbrev pub newerEffect : newer.Instruction → Effect
 newerEffect (newer.load target group) = loadEffect target group
 newerEffect (newer.operate o target s t) = operateEffect target s t
+
+-- of the older player's: "the first is changed by the second"; SHOW reads one
+abbrev pub olderEffect : older.Instruction → Effect
+olderEffect (older.load target group) = loadEffect target group
+olderEffect (older.change o first second) = operateEffect first first second
+olderEffect (older.show register) = record { reads = register ∷ []; writes = []; loads = [] }
 
 -- every one of a list has the property P
 unfoldable pub Every : {A : Type 0} → (A → Type 0) → List A → Type 0

@@ -1,4 +1,4 @@
--- What the law of need counts.
+-- What contracts of the coders cite.
 use mathlib.Core.Bool.{Bool, true, false}
 use mathlib.Core.List.{List, [], _∷_}
 use Prim.Native.Nat.{ℕ, _+_}

@@ -1,4 +1,4 @@
-// What the edge cases of any coder share: the line of a case, the trees of 8,191 nodes, and printing.
+// What the edge cases of both coders share: the line of a case, the trees of 8,191 nodes, and printing.
 ghost use Prim.Native.Nat.{_<_};
 use coder::Coded;
 

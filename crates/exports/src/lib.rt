@@ -10,12 +10,16 @@ ghost use Rattle.lift.specs.Lift.{liftOf};
 ghost use Rattle.lift.specs.Answer.{liftedSays};
 ghost use Rattle.lift.specs.School.{liftWith};
 ghost use Rattle.code.specs.Code.{code};
+ghost use Rattle.code.specs.Devices.{codeOn, olderPlayer};
 ghost use Rattle.coder.specs.Coding as newer-coder;
 ghost use Rattle.coder.specs.Coding.{codedSays};
+ghost use Rattle.older_coder.specs.Coding as older-coder;
 ghost use Rattle.player.specs.Instructions as newer;
 ghost use Rattle.player.specs.Patches.{rig};
 ghost use Rattle.player.specs.Playing as newer-player;
 ghost use Rattle.player.specs.Playing.{playedSays};
+ghost use Rattle.older_player.specs.Instructions as older;
+ghost use Rattle.older_player.specs.Playing as older-player;
 ghost use Rattle.exports.specs.Storing.{answerNumber, withAnswer, tableFrom, LiftCall, GatherCall, EncodeCall, PlayCall};
 use coder::Coded;
 use gather::Gathering;
@@ -141,6 +145,15 @@ pub extern "C" fn encode_call(tree: &[u16], out: &mut [u16], answer: &mut [u32])
     store_coded(coded, answer);
 }
 
+// The same for the older player.
+#[no_mangle]
+pub extern "C" fn older_encode_call(tree: &[u16], out: &mut [u16], answer: &mut [u32])
+    ensures { λ r. ⌜ EncodeCall older-coder.leastBuffer (codeOn olderPlayer) older.numbersOf (now (tree .entry)) (now (out .entry)) (now (out .exit)) (now (answer .entry)) (now (answer .exit)) ⌝ }
+{
+    let coded = older_coder::encode(tree, out);
+    store_coded(coded, answer);
+}
+
 // The number of a player's answer.
 fn number_of(played: Played) -> u16
     ensures { λ r. ⌜ r ≡ answerNumber (playedSays played) ⌝ }
@@ -158,5 +171,15 @@ pub extern "C" fn play_call(code: &[u16], patch: &[u16], lamps: &mut [u8]) -> u1
         (now (lamps .entry)) (now (lamps .exit)) r ⌝ }
 {
     let played = player::play(code, patch, lamps);
+    number_of(played)
+}
+
+// The same of the older player.
+#[no_mangle]
+pub extern "C" fn older_play_call(code: &[u16], patch: &[u16], lamps: &mut [u8]) -> u16
+    ensures { λ r. ⌜ PlayCall (older-player.playFault (now (code .entry)) (now (patch .entry)) (now (lamps .entry))) (older.litLamps (rig (now (patch .entry))) (older.instructions (now (code .entry))))
+        (now (lamps .entry)) (now (lamps .exit)) r ⌝ }
+{
+    let played = older_player::play(code, patch, lamps);
     number_of(played)
 }

@@ -29,8 +29,7 @@ use Rattle.sheet.specs.Reading.{ReadingState, ReadingOutcome, accepted, refused
 use Rattle.sheet.specs.declared.Sheet.{Sheet}
 use Rattle.sheet.proofs.AcceptedLaws.{accepted-sheet, accepted-short, answered-tree, answered-marks, answered-long, number-accepted, number-refused, Accepted}
 use Rattle.printing.proofs.PrintingLaws.{no-most}
-use Rattle.player.specs.Instructions.{Instruction}
-use Rattle.printing.specs.Key.{NO, Key, refusal, text, liftRows, heldRows, instructionRow, instructionRows}
+use Rattle.printing.specs.Key.{NO, Key, refusal, text, liftRows, heldRows, instructionRows}
 use Rattle.lift_lines.specs.Lifting.{treeAfter, liftAnswers}
 use Rattle.key.specs.Call.{keyBytes, KeyOf, KeyWith, keySays, KeyCall}
 use Rattle.key.specs.InnerKeyOf.{heldBy, codeBy, keyIn, keyFor, keyBy, keyForSchool, schoolKeyOf, KeyBy}
@@ -43,6 +42,8 @@ use Rattle.sheet.proofs.LiftLineLaws.{lifts-few}
 use Rattle.lift_lines.proofs.LiftingLaws.{after-keeps}
 use Rattle.key.proofs.GatheringLaws.{markable-keeps}
 use Rattle.key.proofs.DemandLaws.{demand-3}
+use Rattle.printing.specs.declared.Device.{Device}
+use Rattle.key.specs.Devices.{InstructionOf, rowFor}
 
 module _ (s : List ℕ) (st : ReadingState) (e : reading s ≡ accepted st) (A : Accepted sheetRules s st) where
   -- at most 10,000 lifts
@@ -63,24 +64,24 @@ module _ (s : List ℕ) (st : ReadingState) (e : reading s ≡ accepted st) (A :
   marks-left R = markable-keeps (after-keeps R (A .tree) (st .lifts) (A .nodes)) marks-in
 
   -- the lifts' lines, then the rest
-  pub answered : {m : MoveTable} → Right m → {tree′ out out₁ out₂ : List ℕ} {r : Progress} {next : ℕ} → LiftedAll m (A .tree) (st .lifts) tree′ r out out₁
-      → Finished (treeAfter m (A .tree) (st .lifts)) (st .marks) out₁ (r .next) out₂ next → WroteKey m (accepted st) out out₂ next
-  answered {m} R L F =
+  pub answered : (d : Device) {m : MoveTable} → Right m → {tree′ out out₁ out₂ : List ℕ} {r : Progress} {next : ℕ} → LiftedAll m (A .tree) (st .lifts) tree′ r out out₁
+      → Finished d (treeAfter m (A .tree) (st .lifts)) (st .marks) out₁ (r .next) out₂ next → WroteKey d m (accepted st) out out₂ next
+  answered d {m} R L F =
       let u = treeAfter m (A .tree) (st .lifts) in
       let held = heldBy u (st .marks) in
-      let is = codeBy u (st .marks) in
+      let is = codeBy d u (st .marks) in
       record {
-        answers = subst (λ (o : Option Tree). KeyOf m (accepted st) (keyIn m st o)) (sym (A .is))
-            (A .tree, A .is, demand-3 R (A .tree) (st .marks) (st .lifts) (A .nodes) held is (F .ends));
+        answers = subst (λ (o : Option Tree). KeyOf d m (accepted st) (keyIn d m st o)) (sym (A .is))
+            (A .tree, A .is, demand-3 d R (A .tree) (st .marks) (st .lifts) (A .nodes) held is (F .ends));
         wrote = wrote-as (wrote-then (L .wrote) (F .wrote))
-            (unfold text keyBy in sym (lines-append (liftRows (liftAnswers m (A .tree) (st .lifts))) (heldRows held ++ instructionRows instructionRow is)) ∙ ap (λ (o : Option Tree). text instructionRow (keyIn m st o)) (sym (A .is)));
+            (unfold text keyBy in sym (lines-append (liftRows (liftAnswers m (A .tree) (st .lifts))) (heldRows held ++ instructionRows (rowFor d) is)) ∙ ap (λ (o : Option Tree). text (rowFor d) (keyIn d m st o)) (sym (A .is)));
         most = omega (arith, L .most, F .most, few-lifts);
       }
 
 -- a refusal's line is its text
-pub refusal-text : (number at : ℕ) → line NO (number ∷ at ∷ []) ≡ text instructionRow (refusal number at)
+pub refusal-text : (d : Device) (number at : ℕ) → line NO (number ∷ at ∷ []) ≡ text (rowFor d) (refusal number at)
 unfolding text lines
-refusal-text number at = sym (append-nil (line NO (number ∷ at ∷ [])))
+refusal-text d number at = sym (append-nil (line NO (number ∷ at ∷ [])))
 
 -- ---- what `read` answers for such a sheet
 pub record IsRead (s : List ℕ) (st : ReadingState) (read : Sheet) : Type 0 where
@@ -126,9 +127,9 @@ module _ {s : List ℕ} {st : ReadingState} {read : Sheet} (I : IsRead s st read
   pub read-marks : {m : MoveTable} → Right m → Markable (treeAfter m (I .has .tree) (st .lifts)) (take (read .marked) (read .marks))
   read-marks R = rw (I .marks) (marks-left s st (I .is) (I .has) R)
 
-  pub read-answered : {m : MoveTable} → Right m → {tree′ out out₁ out₂ : List ℕ} {r : Progress} {next : ℕ} → LiftedAll m (I .has .tree) (st .lifts) tree′ r out out₁
-      → Finished (treeAfter m (I .has .tree) (st .lifts)) (take (read .marked) (read .marks)) out₁ (r .next) out₂ next → WroteKey m (accepted st) out out₂ next
-  read-answered R L F = answered s st (I .is) (I .has) R L (rw (I .marks) at F)
+  pub read-answered : (d : Device) {m : MoveTable} → Right m → {tree′ out out₁ out₂ : List ℕ} {r : Progress} {next : ℕ} → LiftedAll m (I .has .tree) (st .lifts) tree′ r out out₁
+      → Finished d (treeAfter m (I .has .tree) (st .lifts)) (take (read .marked) (read .marks)) out₁ (r .next) out₂ next → WroteKey d m (accepted st) out out₂ next
+  read-answered d R L F = answered s st (I .is) (I .has) d R L (rw (I .marks) at F)
 
   pub read-most : {m : MoveTable} {tree′ out out₁ : List ℕ} {r : Progress} → LiftedAll m (I .has .tree) (st .lifts) tree′ r out out₁ → r .next ≤ 160000
   read-most L = omega (arith, L .most, I .few, I .asks .counted)
@@ -139,56 +140,56 @@ accepted-read s read e z =
     let n = number-accepted s (ap (λ (x : Sheet). x .number) (sym e) ∙ z) in
     (n .0, record { accepts = n .1; answers = e ∙ ap sheetOf (n .1) })
 
-pub wrote-refused : (m : MoveTable) (s out out′ : List ℕ) (n : ℕ) (read : Sheet) → read ≡ sheetOf (reading s) → (read .number ≡ 0 → ⊥) → n ≤ keyBytes
-    → Wrote out 0 out′ n (line NO (read .number ∷ read .line ∷ [])) → WroteKey m (reading s) out out′ n
-wrote-refused m s out out′ n read e z most w =
+pub wrote-refused : (d : Device) (m : MoveTable) (s out out′ : List ℕ) (n : ℕ) (read : Sheet) → read ≡ sheetOf (reading s) → (read .number ≡ 0 → ⊥) → n ≤ keyBytes
+    → Wrote out 0 out′ n (line NO (read .number ∷ read .line ∷ [])) → WroteKey d m (reading s) out out′ n
+wrote-refused d m s out out′ n read e z most w =
     let q : reading s ≡ refused (read .number) (read .line) = rw (← e) at (number-refused s (rw e at z)) in
-    subst (λ (o : ReadingOutcome). WroteKey m o out out′ n) (sym q) (record { answers = refl; wrote = unfold keyBy in wrote-as w (refusal-text (read .number) (read .line)); most = most })
+    subst (λ (o : ReadingOutcome). WroteKey d m o out out′ n) (sym q) (record { answers = refl; wrote = unfold keyBy in wrote-as w (refusal-text d (read .number) (read .line)); most = most })
 
-pub wrote-accepted : (m : MoveTable) (s : List ℕ) {out out′ : List ℕ} {n : ℕ} {o : ReadingOutcome} → reading s ≡ o → WroteKey m o out out′ n → WroteKey m (reading s) out out′ n
-wrote-accepted m s {out} {out′} {n} e W = subst (λ (o : ReadingOutcome). WroteKey m o out out′ n) (sym e) W
+pub wrote-accepted : (d : Device) (m : MoveTable) (s : List ℕ) {out out′ : List ℕ} {n : ℕ} {o : ReadingOutcome} → reading s ≡ o → WroteKey d m o out out′ n → WroteKey d m (reading s) out out′ n
+wrote-accepted d m s {out} {out′} {n} e W = subst (λ (o : ReadingOutcome). WroteKey d m o out out′ n) (sym e) W
 
 -- ---- the contract of a call: both promises
-abbrev pub Keys : (Key Instruction → Type 0) → List ℕ → List ℕ → KeyAnswer → List ℕ → Type 0
-Keys IsKey bytes out r out′ = KeyCall IsKey out r out′ × KeyBy bytes out r out′
+abbrev pub Keys : (d : Device) → (Key (InstructionOf d) → Type 0) → List ℕ → List ℕ → KeyAnswer → List ℕ → Type 0
+Keys d IsKey bytes out r out′ = KeyCall d IsKey out r out′ × KeyBy bytes out r out′
 
 -- a key was written
-pub call-written : (IsKey : Key Instruction → Type 0) (k : Key Instruction) {out out′ : List ℕ} {n : ℕ} → IsKey k → keyBytes ≤ length out → n ≤ keyBytes → Wrote out 0 out′ n (text instructionRow k)
-    → Keys IsKey (text instructionRow k) out (Written n) out′
-call-written IsKey k {out} {out′} {n} answers room most w =
-    let says : keySays (Written n) ≡ some (done (length (text instructionRow k) ∷ [])) = ap (λ (m : ℕ). some (done (m ∷ []))) (let z : n ≡ length (text instructionRow k) = omega (arith, w .ends) in z) in
-    let written : out′ ≡ over (text instructionRow k) out = wrote-over w (omega (arith, w .ends, most)) in (
+pub call-written : (d : Device) (IsKey : Key (InstructionOf d) → Type 0) (k : Key (InstructionOf d)) {out out′ : List ℕ} {n : ℕ} → IsKey k → keyBytes ≤ length out → n ≤ keyBytes → Wrote out 0 out′ n (text (rowFor d) k)
+    → Keys d IsKey (text (rowFor d) k) out (Written n) out′
+call-written d IsKey k {out} {out′} {n} answers room most w =
+    let says : keySays (Written n) ≡ some (done (length (text (rowFor d) k) ∷ [])) = ap (λ (m : ℕ). some (done (m ∷ []))) (let z : n ≡ length (text (rowFor d) k) = omega (arith, w .ends) in z) in
+    let written : out′ ≡ over (text (rowFor d) k) out = wrote-over w (omega (arith, w .ends, most)) in (
       record { short = λ h. absurd (omega arith); long = λ h. record { key = k; answers = answers; says = says; written = written } },
       record { by = λ h. (says, written) },
     )
 
-pub call-short : (IsKey : Key Instruction → Type 0) (bytes out : List ℕ) → length out < keyBytes → Keys IsKey bytes out Short out
-call-short IsKey bytes out h = (record { short = λ _. (refl, refl); long = λ k. absurd (omega arith) }, record { by = λ k. absurd (omega arith) })
+pub call-short : (d : Device) (IsKey : Key (InstructionOf d) → Type 0) (bytes out : List ℕ) → length out < keyBytes → Keys d IsKey bytes out Short out
+call-short d IsKey bytes out h = (record { short = λ _. (refl, refl); long = λ k. absurd (omega arith) }, record { by = λ k. absurd (omega arith) })
 
 -- by a table
-pub call-by : (m : MoveTable) (s : List ℕ) {out out′ : List ℕ} {n : ℕ} → keyBytes ≤ length out → WroteKey m (reading s) out out′ n
-    → Keys (KeyOf m (reading s)) (keyBy m (reading s)) out (Written n) out′
+pub call-by : (d : Device) (m : MoveTable) (s : List ℕ) {out out′ : List ℕ} {n : ℕ} → keyBytes ≤ length out → WroteKey d m (reading s) out out′ n
+    → Keys d (KeyOf d m (reading s)) (keyBy d m (reading s)) out (Written n) out′
 unfolding keyBy
-call-by m s room W = call-written (KeyOf m (reading s)) (keyFor m (reading s)) (W .answers) room (W .most) (W .wrote)
+call-by d m s room W = call-written d (KeyOf d m (reading s)) (keyFor d m (reading s)) (W .answers) room (W .most) (W .wrote)
 
 -- ---- by a school's table
-module _ (t s : List ℕ) {out out′ : List ℕ} {n : ℕ} (room : keyBytes ≤ length out) where
+module _ (d : Device) (t s : List ℕ) {out out′ : List ℕ} {n : ℕ} (room : keyBytes ≤ length out) where
   -- a key by what loading comes to
-  by-loading : (o : Loaded) → loading t ≡ o → (k : Key Instruction) → k ≡ keyForSchool o (reading s) → KeyWith o (reading s) k → n ≤ keyBytes → Wrote out 0 out′ n (text instructionRow k)
-      → Keys (KeyWith (loading t) (reading s)) (schoolKeyOf t s) out (Written n) out′
+  by-loading : (o : Loaded) → loading t ≡ o → (k : Key (InstructionOf d)) → k ≡ keyForSchool d o (reading s) → KeyWith d o (reading s) k → n ≤ keyBytes → Wrote out 0 out′ n (text (rowFor d) k)
+      → Keys d (KeyWith d (loading t) (reading s)) (schoolKeyOf d t s) out (Written n) out′
   unfolding schoolKeyOf
   by-loading o e k q K most w =
-      subst (λ (o : Loaded). Keys (KeyWith o (reading s)) (text instructionRow (keyForSchool o (reading s))) out (Written n) out′) (sym e)
-      (subst (λ (x : Key Instruction). Keys (KeyWith o (reading s)) (text instructionRow x) out (Written n) out′) q (call-written (KeyWith o (reading s)) k K room most w))
+      subst (λ (o : Loaded). Keys d (KeyWith d o (reading s)) (text (rowFor d) (keyForSchool d o (reading s))) out (Written n) out′) (sym e)
+      (subst (λ (x : Key (InstructionOf d)). Keys d (KeyWith d o (reading s)) (text (rowFor d) x) out (Written n) out′) q (call-written d (KeyWith d o (reading s)) k K room most w))
 
-  pub school-refused : (number line : ℕ) → loading t ≡ table.refused number line → n ≤ keyBytes → Wrote out 0 out′ n (text instructionRow (refusal number line))
-      → Keys (KeyWith (loading t) (reading s)) (schoolKeyOf t s) out (Written n) out′
+  pub school-refused : (number line : ℕ) → loading t ≡ table.refused number line → n ≤ keyBytes → Wrote out 0 out′ n (text (rowFor d) (refusal number line))
+      → Keys d (KeyWith d (loading t) (reading s)) (schoolKeyOf d t s) out (Written n) out′
   school-refused number line e most w = by-loading (table.refused number line) e (refusal number line) refl refl most w
 
-  pub school-written : (ps : List Formula) → loading t ≡ table.loaded ps → WroteKey (schoolTable ps) (reading s) out out′ n
-      → Keys (KeyWith (loading t) (reading s)) (schoolKeyOf t s) out (Written n) out′
+  pub school-written : (ps : List Formula) → loading t ≡ table.loaded ps → WroteKey d (schoolTable ps) (reading s) out out′ n
+      → Keys d (KeyWith d (loading t) (reading s)) (schoolKeyOf d t s) out (Written n) out′
   unfolding keyBy
-  school-written ps e W = by-loading (table.loaded ps) e (keyFor (schoolTable ps) (reading s)) refl (W .answers) (W .most) (W .wrote)
+  school-written ps e W = by-loading (table.loaded ps) e (keyFor d (schoolTable ps) (reading s)) refl (W .answers) (W .most) (W .wrote)
 
 -- a refusal's line has room
 pub short-line : (t : List ℕ) (r : LoadAnswer) → r ≡ loadingSays (loading t) → (r .number ≡ 0 → ⊥) → length (line NO (r .number ∷ r .line ∷ [])) ≤ keyBytes

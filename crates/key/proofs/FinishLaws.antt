@@ -3,7 +3,7 @@ use mathlib.Core.Path.{_≡_, refl, sym, ap, ap₂, subst, _∙_}
 use mathlib.Core.Bool.{Bool}
 use mathlib.Core.List.{List, [], _∷_, _++_, append-nil}
 use mathlib.Core.Option.{some, none}
-use Prim.Native.Nat.{ℕ, _+_, _*_, _≤_, _<_}
+use Prim.Native.Nat.{ℕ, _+_, _≤_, _<_}
 use native.Mathlib.Omega.{arith}
 use borrow.Author.Tests.{lt-ltb}
 use lib.ListN.{length, take, drop, length-append}
@@ -17,52 +17,48 @@ use Rattle.tree.proofs.ParseLaws.{tree-of-postfix}
 use Rattle.tree.proofs.WritingLaws.{wrote-then, wrote-as, take-over}
 use Rattle.text.specs.Line.{line, lines}
 use Rattle.code.specs.Need.{nodesBefore}
-use Rattle.code.specs.Code.{code}
 use Rattle.code.specs.Runs.{runFirst, runCount}
 use Rattle.coder.specs.Coding.{codeOfList, runOf}
 use Rattle.coder.specs.declared.Run.{Run}
 use Rattle.code.proofs.RunLaws.{before-most}
-use Rattle.code.proofs.NewerLaws.{length-code, code-well-formed}
 use Rattle.gather.specs.Gathering.{Gathered, CannotBeGathered}
 use Rattle.gather.specs.Answer.{gatherFault, GatheredTo, GathersTree, Gathers}
 use Rattle.gather.specs.InnerGathered.{gatheredBy, holderOf, Returned, GathersBy}
 use Rattle.gather.specs.declared.Gathering.{Gathering}
 use Rattle.gather.specs.declared.Gathering.the-variants.{Done, Refused}
 use Rattle.gather.proofs.GatheredLaws.{holder-of, named-tree, named-none}
-use Rattle.player.specs.Instructions.{Instruction}
-use Rattle.printing.specs.Key.{Held, unmarked, cannot, HELD, heldRows, instructionRow, instructionRows}
+use Rattle.printing.specs.declared.Device.{Device}
+use Rattle.key.specs.Devices.{InstructionOf, codeFor, rowFor}
+use Rattle.key.proofs.DeviceLaws.{lawful}
+use Rattle.printing.specs.Key.{Held, unmarked, cannot, HELD, heldRows, instructionRows}
 use Rattle.key.specs.InnerKeyOf.{heldAs, heldIn, heldBy, codeBy}
 use Rattle.lift_lines.specs.Inner.{IsList}
-use Rattle.key.specs.Inner.{heldBytes, instructionBytes, Markable, Ends, Finished}
-use Rattle.printing.proofs.PrintingLaws.{code-most, held-most, never-most}
+use Rattle.key.specs.Inner.{heldBytes, codeBytes, Markable, Ends, Finished}
+use Rattle.printing.proofs.PrintingLaws.{held-most, never-most}
 use Rattle.key.proofs.GatheringLaws.{no-fault}
-
--- the text of a tree's code has room
-pub tree-code-most : (u : Tree) → size u ≤ mostNodes → length (lines (instructionRows instructionRow (code u 0))) ≤ instructionBytes * mostNodes
-tree-code-most u h = omega (arith, code-most (code u 0) (code-well-formed u h), length-code u 0)
 
 pub empty-list : (l : List ℕ) → length l ≡ 0 → l ≡ []
 empty-list [] e = refl
 empty-list (x ∷ l) e = absurd (omega arith)
 
 -- the lines and the instructions named, said in another way
-finished : {u : Tree} {marks out out′ : List ℕ} {at next : ℕ} (held : Held) (is : List Instruction) → heldBy u marks ≡ held → codeBy u marks ≡ is → Ends u marks held is
-    → Wrote out at out′ next (lines (heldRows held ++ instructionRows instructionRow is)) → next ≤ at + heldBytes + instructionBytes * mostNodes → Finished u marks out at out′ next
-finished held is e f E w h = record { ends = rw (e, f) E; wrote = rw (e, f) w; most = h }
+finished : (d : Device) {u : Tree} {marks out out′ : List ℕ} {at next : ℕ} (held : Held) (is : List (InstructionOf d)) → heldBy u marks ≡ held → codeBy d u marks ≡ is → Ends d u marks held is
+    → Wrote out at out′ next (lines (heldRows held ++ instructionRows (rowFor d) is)) → next ≤ at + heldBytes + codeBytes → Finished d u marks out at out′ next
+finished d held is e f E w h = record { ends = rw (e, f) E; wrote = rw (e, f) w; most = h }
 
 -- ---- without marks
-pub finished-plain : {u : Tree} {marks out out′ : List ℕ} {at next : ℕ} → size u ≤ mostNodes → marks ≡ [] → Wrote out at out′ next (lines (instructionRows instructionRow (code u 0)))
-    → Finished u marks out at out′ next
-finished-plain {u} h e w = finished unmarked (code u 0) (rw e) (rw e) (e, refl) w (omega (arith, w .ends, tree-code-most u h))
+pub finished-plain : (d : Device) {u : Tree} {marks out out′ : List ℕ} {at next : ℕ} → size u ≤ mostNodes → marks ≡ [] → Wrote out at out′ next (lines (instructionRows (rowFor d) (codeFor d u)))
+    → Finished d u marks out at out′ next
+finished-plain d {u} h e w = finished d unmarked (codeFor d u) (rw e) (rw e) (e, refl) w (omega (arith, w .ends, lawful d .text-most u h))
 
 -- ---- with marks: what `gather` says where reading found no fault
 held-marked : (u : Tree) (marks : List ℕ) → 1 ≤ length marks → heldBy u marks ≡ heldIn marks (gatheredBy u marks)
 held-marked u [] h = absurd (omega arith)
 held-marked u (m ∷ marks) h = refl
 
-code-marked : (u : Tree) (marks : List ℕ) → 1 ≤ length marks → codeBy u marks ≡ codeOfList (λ t. code t 0) (gatheredBy u marks)
-code-marked u [] h = absurd (omega arith)
-code-marked u (m ∷ marks) h = refl
+code-marked : (d : Device) (u : Tree) (marks : List ℕ) → 1 ≤ length marks → codeBy d u marks ≡ codeOfList (codeFor d) (gatheredBy u marks)
+code-marked d u [] h = absurd (omega arith)
+code-marked d u (m ∷ marks) h = refl
 
 -- the tree returned, and that it is the one named
 pub record NamedTo (u : Tree) (marks out out′ : List ℕ) (count holder : ℕ) : Type 0 where
@@ -125,22 +121,22 @@ module _ (g : Tree) (m : ℕ → Bool) (p : ℕ) (H : Gathered m g p) (most : si
       held-most (run .first) (run .count) (omega (arith, run-first, n, size-positive (H .holder))) (omega (arith, run-count, n))
 
 -- ---- both answers of `put_held`
-pub finished-never : {u : Tree} {marks out out′ : List ℕ} {at next : ℕ} → 1 ≤ length marks → CannotBeGathered (isIn marks) u × (gatheredBy u marks ≡ none)
-    → Wrote out at out′ next (line HELD (19 ∷ [])) → Finished u marks out at out′ next
-finished-never {u} {marks} k (C, e) w =
-    finished cannot [] (held-marked u marks k ∙ ap (heldIn marks) e) (code-marked u marks k ∙ ap (codeOfList (λ t. code t 0)) e) (k, C, refl)
+pub finished-never : (d : Device) {u : Tree} {marks out out′ : List ℕ} {at next : ℕ} → 1 ≤ length marks → CannotBeGathered (isIn marks) u × (gatheredBy u marks ≡ none)
+    → Wrote out at out′ next (line HELD (19 ∷ [])) → Finished d u marks out at out′ next
+finished-never d {u} {marks} k (C, e) w =
+    finished d cannot [] (held-marked u marks k ∙ ap (heldIn marks) e) (code-marked d u marks k ∙ ap (codeOfList (codeFor d)) e) (k, C, refl)
     (wrote-as w (unfold lines instructionRows in sym (append-nil (line HELD (19 ∷ []))))) (omega (arith, w .ends, never-most))
 
-pub finished-held : {u : Tree} {marks old new out out₁ out₂ : List ℕ} {count holder at next last : ℕ} (D : NamedTo u marks old new count holder) (run : Run)
+pub finished-held : (d : Device) {u : Tree} {marks old new out out₁ out₂ : List ℕ} {count holder at next last : ℕ} (D : NamedTo u marks old new count holder) (run : Run)
     → run ≡ runOf (treeOf (take count new)) holder → 1 ≤ length marks → Wrote out at out₁ next (line HELD (0 ∷ run .first ∷ run .count ∷ []))
-    → Wrote out₁ next out₂ last (lines (instructionRows instructionRow (code (D .to .result) 0))) → Finished u marks out at out₂ last
-finished-held {u} {marks} {old} {new} {out} {out₁} {out₂} {count} {holder} D run R k w v =
+    → Wrote out₁ next out₂ last (lines (instructionRows (rowFor d) (codeFor d (D .to .result)))) → Finished d u marks out at out₂ last
+finished-held d {u} {marks} {old} {new} {out} {out₁} {out₂} {count} {holder} D run R k w v =
     let T = D .to in
     let g = T .result in
     let l = gathered-list T .list in
     let named : run ≡ runOf (some g) (holderOf marks g)
     = R ∙ ap₂ runOf (ap treeOf l ∙ tree-of-postfix g (T .most)) (holder-of marks (T .gathered)) in
-    finished (heldAs run) (code g 0) (held-marked u marks k ∙ ap (heldIn marks) (D .is) ∙ ap heldAs (sym named)) (code-marked u marks k ∙ ap (codeOfList (λ t. code t 0)) (D .is)) (
+    finished d (heldAs run) (codeFor d g) (held-marked u marks k ∙ ap (heldIn marks) (D .is) ∙ ap heldAs (sym named)) (code-marked d u marks k ∙ ap (codeOfList (codeFor d)) (D .is)) (
       k,
       record {
         tree = g;
@@ -156,4 +152,4 @@ finished-held {u} {marks} {old} {new} {out} {out₁} {out₂} {count} {holder} D
       },
     )
     (wrote-as (wrote-then w v) (unfold lines in refl))
-    (omega (arith, w .ends, v .ends, tree-code-most g (T .most), run-line g (isIn marks) holder (T .gathered) (T .most) (take count new) l run R))
+    (omega (arith, w .ends, v .ends, lawful d .text-most g (T .most), run-line g (isIn marks) holder (T .gathered) (T .most) (take count new) l run R))

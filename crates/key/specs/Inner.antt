@@ -2,30 +2,40 @@
 use mathlib.Core.Path.{_≡_}
 use mathlib.Core.Bool.{true}
 use mathlib.Core.List.{List, [], _++_}
-use Prim.Native.Nat.{ℕ, _+_, _*_, _≤_}
+use Prim.Native.Nat.{ℕ, _+_, _≤_}
 use lib.ListN.{length}
-use Rattle.tree.specs.Tree.{Tree, mostNodes, mostGroups, isIn, groups}
+use Rattle.tree.specs.Tree.{Tree, mostGroups, isIn, groups}
 use Rattle.tree.specs.InnerGroups.{Distinct}
 use Rattle.tree.specs.InnerWriting.{Wrote}
 use Rattle.text.specs.Line.{lines}
-use Rattle.player.specs.Instructions.{Instruction}
-use Rattle.code.specs.Code.{code}
 use Rattle.gather.specs.Gathering.{CannotBeGathered}
 use Rattle.moves.specs.Moves.{MoveTable}
 use Rattle.sheet.specs.Reading.{ReadingState, ReadingOutcome, accepted, reading, sheetOf}
 use Rattle.sheet.specs.declared.Sheet.{Sheet}
-use Rattle.printing.specs.Key.{Held, unmarked, heldRun, cannot, heldRows, instructionRow, instructionRows}
+use Rattle.printing.specs.Key.{Held, unmarked, heldRun, cannot, heldRows, instructionRows}
 use Rattle.lift_lines.specs.Inner.{IsList}
+use Rattle.printing.specs.declared.Device.{Device}
+use Rattle.printing.specs.declared.Device.the-variants.{Newer, Older}
+use Rattle.coder.specs.Coding as newer-coder
+use Rattle.older_coder.specs.Coding as older-coder
+use Rattle.coder.specs.declared.Coded.{Coded}
+use Rattle.key.specs.Devices.{InstructionOf, codeFor, rowFor}
 use Rattle.key.specs.Demand.{HeldCode}
 use Rattle.key.specs.Call.{keyBytes, KeyOf}
 use Rattle.key.specs.InnerKeyOf.{heldBy, codeBy, keyFor, keyBy}
 
--- bytes that a HELD line, a code line have at most
+-- bytes that a HELD line has at most, and
 abbrev pub heldBytes : ℕ
 heldBytes = 17
 
-abbrev pub instructionBytes : ℕ
-instructionBytes = 14
+-- a code, with SHOW
+abbrev pub codeBytes : ℕ
+codeBytes = 114682
+
+-- what a device's coder promises
+abbrev pub EncodesFor : Device → (tree out : List ℕ) → Coded → List ℕ → Type 0
+EncodesFor Newer tree out r after = newer-coder.Encodes tree out r after
+EncodesFor Older tree out r after = older-coder.Encodes tree out r after
 
 -- what a sheet's marks are in a tree that its lifts leave
 pub record Markable (u : Tree) (marks : List ℕ) : Type 0 where
@@ -35,23 +45,23 @@ pub record Markable (u : Tree) (marks : List ℕ) : Type 0 where
 
 -- ---- `finish` and `put_held`
 -- what follows the lifts, which leave the tree u: "with marks `HELD` ..; then the code of the tree after the lifts"
-abbrev pub Ends : Tree → List ℕ → Held → List Instruction → Type 0
-Ends u marks unmarked is = (marks ≡ []) × (is ≡ code u 0)
-Ends u marks (heldRun first count) is = (1 ≤ length marks) × HeldCode u marks first count is
-Ends u marks cannot is = (1 ≤ length marks) × CannotBeGathered (isIn marks) u × (is ≡ [])
+abbrev pub Ends : (d : Device) → Tree → List ℕ → Held → List (InstructionOf d) → Type 0
+Ends d u marks unmarked is = (marks ≡ []) × (is ≡ codeFor d u)
+Ends d u marks (heldRun first count) is = (1 ≤ length marks) × HeldCode d u marks first count is
+Ends d u marks cannot is = (1 ≤ length marks) × CannotBeGathered (isIn marks) u × (is ≡ [])
 
 -- a tree and marks to gather in it, and room for what is written
 abbrev pub MarkedTree : (tree marks out : List ℕ) (at : ℕ) → Type 0
-MarkedTree tree marks out at = ((u : Tree) × IsList tree u × Markable u marks) × (at + heldBytes + instructionBytes * mostNodes ≤ length out)
+MarkedTree tree marks out at = ((u : Tree) × IsList tree u × Markable u marks) × (at + heldBytes + codeBytes ≤ length out)
 
 -- the HELD line, if any, and the code
-pub record Finished (u : Tree) (marks out : List ℕ) (at : ℕ) (out′ : List ℕ) (next : ℕ) : Type 0 where
-  pub ends : Ends u marks (heldBy u marks) (codeBy u marks)
-  pub wrote : Wrote out at out′ next (lines (heldRows (heldBy u marks) ++ instructionRows instructionRow (codeBy u marks)))
-  pub most : next ≤ at + heldBytes + instructionBytes * mostNodes
+pub record Finished (d : Device) (u : Tree) (marks out : List ℕ) (at : ℕ) (out′ : List ℕ) (next : ℕ) : Type 0 where
+  pub ends : Ends d u marks (heldBy u marks) (codeBy d u marks)
+  pub wrote : Wrote out at out′ next (lines (heldRows (heldBy u marks) ++ instructionRows (rowFor d) (codeBy d u marks)))
+  pub most : next ≤ at + heldBytes + codeBytes
 
-abbrev pub Finishes : (tree marks out : List ℕ) (at : ℕ) (out′ : List ℕ) (next : ℕ) → Type 0
-Finishes tree marks out at out′ next = (u : Tree) → IsList tree u → Markable u marks → Finished u marks out at out′ next
+abbrev pub Finishes : Device → (tree marks out : List ℕ) (at : ℕ) (out′ : List ℕ) (next : ℕ) → Type 0
+Finishes d tree marks out at out′ next = (u : Tree) → IsList tree u → Markable u marks → Finished d u marks out at out′ next
 
 -- ---- `answer_sheet`
 -- reading accepts the sheet with the state st, and answered so
@@ -60,7 +70,7 @@ pub record ReadAs (sheet : List ℕ) (read : Sheet) (st : ReadingState) : Type 0
   pub answers : read ≡ sheetOf (accepted st)
 
 -- the whole key of a sheet by a table, by what reading comes to
-pub record WroteKey (m : MoveTable) (o : ReadingOutcome) (out out′ : List ℕ) (next : ℕ) : Type 0 where
-  pub answers : KeyOf m o (keyFor m o)
-  pub wrote : Wrote out 0 out′ next (keyBy m o)
+pub record WroteKey (d : Device) (m : MoveTable) (o : ReadingOutcome) (out out′ : List ℕ) (next : ℕ) : Type 0 where
+  pub answers : KeyOf d m o (keyFor d m o)
+  pub wrote : Wrote out 0 out′ next (keyBy d m o)
   pub most : next ≤ keyBytes

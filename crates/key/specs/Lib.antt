@@ -1,5 +1,7 @@
+pub mod Devices
 pub mod Demand
 pub mod Call
+pub mod Alike
 pub mod Samples
 pub mod InnerKeyOf
 pub mod Inner

@@ -1,5 +1,5 @@
-// What a coder needs of a tree, whatever its device: notes of the tree's nodes and, by them, a node's children in the order of their
-// code; an operator's kind; an instruction's four numbers, written.
+// What the coders of both devices share: notes of a tree's nodes and, by them, a node's children in the order of their code; an
+// operator's kind; an instruction's four numbers, written.
 //
 // One pass over the tree's list notes where each node's part begins and what it needs. With these notes a node's children
 // are found from its entry: the right one is the entry before, the left one the entry before the right part's start.

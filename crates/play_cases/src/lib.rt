@@ -1,4 +1,4 @@
-// What the edge cases of any player share: the line of a case.
+// What the edge cases of both players share: the line of a case.
 use player::Played;
 
 // What every byte is before a case.

@@ -31,7 +31,7 @@ kind-inside add = refl
 kind-inside cut = refl
 kind-inside both = refl
 
-kind-read : (o : Operation) → operationWith (kindOf o) ≡ o
+pub kind-read : (o : Operation) → operationWith (kindOf o) ≡ o
 kind-read add = refl
 kind-read cut = refl
 kind-read both = refl

@@ -2,6 +2,7 @@ pub mod InstructionLaws
 pub mod ByteLaws
 pub mod PlayingLaws
 pub mod FaultLaws
+pub mod FormLaws
 pub mod ListLaws
 pub mod PackingLaws
 pub mod HoldingLaws

@@ -8,10 +8,12 @@ use native.Mathlib.Omega.{arith}
 use borrow.Author.Tests.{eq-eqb, ne-eqb, eqb-true, eqb-false}
 use lib.Dec.{eqb}
 use lib.ListN.{length, getD, drop}
+use Rattle.common.specs.Fours.{fours}
 use Rattle.common.proofs.ListLaws.{two-at, four-at, fours-more, fours-end}
-use Rattle.player.specs.Instructions.{Rig, Registers, add, combined, put, empty, step, run, instruction, instructions}
+use Rattle.player.specs.Instructions.{Rig, Registers, add, combined, put, empty, step, run}
 use Rattle.player.specs.Patches.{rig}
 use Rattle.player.specs.Playing.{wrongInstruction, wrongCode, wrongPair, wrongPatch}
+use Rattle.player.specs.InnerForms.{wrongIn, instructionIn, NoneWrong}
 use Rattle.player.proofs.FaultLaws.{or-left, or-right}
 
 module _ (l : List ℕ) (i k : ℕ) (e : i + 4 ≡ k) (h : k ≤ length l) where
@@ -25,17 +27,25 @@ module _ (l : List ℕ) (i k : ℕ) (e : i + 4 ≡ k) (h : k ≤ length l) where
   pub code-miss : wrongInstruction (getD l i 0) (getD l (i + 1) 0) (getD l (i + 2) 0) (getD l (i + 3) 0) ≡ false → wrongCode (drop i l) ≡ wrongCode (drop k l)
   code-miss s = code-more ∙ rw s
 
-  -- code without fault 23: its first instruction, and the rest
-  pub code-right : wrongCode (drop i l) ≡ false
-      → (wrongInstruction (getD l i 0) (getD l (i + 1) 0) (getD l (i + 2) 0) (getD l (i + 3) 0) ≡ false) × (wrongCode (drop k l) ≡ false)
-  code-right right =
-      let both = sym code-more ∙ right in
-      (or-left _ _ both, or-right (wrongInstruction (getD l i 0) (getD l (i + 1) 0) (getD l (i + 2) 0) (getD l (i + 3) 0)) _ both)
+-- code without fault 23: each of its instructions
+pub code-right : (l : List ℕ) → wrongCode l ≡ false → NoneWrong (fours (wrongIn 0) l)
+unfolding wrongCode fours NoneWrong
+code-right [] h = tt
+code-right (a ∷ []) h = tt
+code-right (a ∷ b ∷ []) h = tt
+code-right (a ∷ b ∷ c ∷ []) h = tt
+code-right (a ∷ b ∷ c ∷ d ∷ l) h = (or-left _ _ h, code-right l (or-right (wrongInstruction a b c d) _ h))
+
+-- ---- carried out four numbers at a time
+module _ (shift : ℕ) (l : List ℕ) (i k : ℕ) (e : i + 4 ≡ k) (h : k ≤ length l) where
+  pub none-more : NoneWrong (fours (wrongIn shift) (drop i l)) → (wrongIn shift (getD l i 0) (getD l (i + 1) 0) (getD l (i + 2) 0) (getD l (i + 3) 0) ≡ false) × NoneWrong (fours (wrongIn shift) (drop k l))
+  unfolding NoneWrong
+  none-more n = rw (fours-more (wrongIn shift) l i k e h) at n
 
   pub run-more : (G : Rig) (R : Registers)
-      → run G (instructions (drop i l)) R ≡ run G (instructions (drop k l)) (step G (instruction (getD l i 0) (getD l (i + 1) 0) (getD l (i + 2) 0) (getD l (i + 3) 0)) R)
+      → run G (fours (instructionIn shift) (drop i l)) R ≡ run G (fours (instructionIn shift) (drop k l)) (step G (instructionIn shift (getD l i 0) (getD l (i + 1) 0) (getD l (i + 2) 0) (getD l (i + 3) 0)) R)
   unfolding run
-  run-more G R = rw (fours-more instruction l i k e h)
+  run-more G R = rw (fours-more (instructionIn shift) l i k e h)
 
 pub code-end : (l : List ℕ) → length l < 4 → wrongCode l ≡ false
 unfolding wrongCode
@@ -45,9 +55,9 @@ code-end (a ∷ b ∷ []) h = refl
 code-end (a ∷ b ∷ c ∷ []) h = refl
 code-end (a ∷ b ∷ c ∷ d ∷ l) h = absurd (omega arith)
 
-pub run-end : (l : List ℕ) (G : Rig) (R : Registers) → length l < 4 → run G (instructions l) R ≡ R
+pub run-end : (shift : ℕ) (l : List ℕ) (G : Rig) (R : Registers) → length l < 4 → run G (fours (instructionIn shift) l) R ≡ R
 unfolding run
-run-end l G R h = rw (fours-end instruction l h)
+run-end shift l G R h = rw (fours-end (instructionIn shift) l h)
 
 -- ---- pairs
 pair-put : (S : Rig) (g n group lamp : ℕ) → put S g (combined add (eqb n) (S g)) group lamp ≡ ((eqb g group && eqb n lamp) || S group lamp)

@@ -4,3 +4,4 @@ pub mod Patches
 pub mod Bytes
 pub mod Playing
 pub mod InnerWords
+pub mod InnerForms

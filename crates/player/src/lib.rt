@@ -8,12 +8,14 @@ ghost use mathlib.Core.List.{List, _++_};
 ghost use Prim.Native.Nat.{ℕ, _+_, _≤_, _<_};
 ghost use lib.Dec.{eqb};
 ghost use lib.ListN.{length, getD, drop};
+ghost use Rattle.common.specs.Fours.{fours};
 ghost use Rattle.player.specs.Limits.{registerCount, lastGroup, lastLamp, mostPairs, byteCount, outside};
-ghost use Rattle.player.specs.Instructions.{Lamps, Rig, Registers, add, combined, empty, step, litLamps, operationWith, instruction, instructions};
+ghost use Rattle.player.specs.Instructions.{Lamps, Rig, Registers, add, combined, empty, step, run, litLamps, operationWith, instructions};
 ghost use Rattle.player.specs.Patches.{rig};
 ghost use Rattle.player.specs.Bytes.{bytes};
 ghost use Rattle.player.specs.Playing.{wrongLength, wrongInstruction, wrongCode, wrongPairCount, wrongPair, wrongPatch, patchFault, playFault, Plays};
-ghost use Rattle.player.specs.InnerWords.{word, HoldsSet, HoldsSets, Indexed, HoldsGroups, Placed, Executable};
+ghost use Rattle.player.specs.InnerWords.{word, HoldsSet, HoldsSets, Indexed, HoldsGroups, Placed};
+ghost use Rattle.player.specs.InnerForms.{wrongIn, instructionIn, instructionAt, NoneWrong, CanStep};
 
 // 01's limits: the registers, the last group (02's, request 4) and the last lamp, the bytes written, the instructions and the pairs.
 pub const REGISTERS: usize = 13;
@@ -149,46 +151,54 @@ pub fn load_groups(patch: &[u16], index: &mut [u16; GROUPS + 1], sets: &mut [[u6
     }
 }
 
-// Carries out one instruction.
+// Carries out the instruction at `at`. Where its operations name two registers, and not three, `shift` is 1: the first is the target and
+// the left operand, and the second, which stands one number earlier, the right one.
 fn step(
     registers: &mut [[u64; WORDS]; REGISTERS],
-    i: Numbers,
+    code: &[u16],
+    at: usize,
+    shift: usize,
     index: &[u16; GROUPS + 1],
     sets: &[[u64; WORDS]; PLACES],
 )
-    requires { ⌜ Executable (i .kind) (i .target) (i .s) (i .t) (now registers) × Indexed (now index) (now sets) ⌝ }
+    requires { ⌜ CanStep shift (now code) at (now registers) × Indexed (now index) (now sets) ⌝ }
     ensures { λ _. ⌜ (length (now (registers .exit)) ≡ registerCount)
         × ((G : Rig) (R : Registers) → HoldsGroups (now (index .entry)) (now (sets .entry)) G → HoldsSets (now (registers .entry)) R
-        → HoldsSets (now (registers .exit)) (step G (instruction (i .kind) (i .target) (i .s) (i .t)) R)) ⌝ }
+        → HoldsSets (now (registers .exit)) (step G (instructionAt shift (now (code .entry)) at) R)) ⌝ }
 {
-    let target = i.target;
-    let s = i.s;
-    let t = i.t;
-    if i.kind == LOAD {
-        let place = index[s] as usize;
+    let kind = code[at];
+    let target = number_at(code, at + 1);
+    if kind == LOAD {
+        let place = index[number_at(code, at + 2)] as usize;
         registers[target] = sets[place];
     } else {
-        registers[target] = combine(i.kind, registers[s], registers[t]);
+        let s = number_at(code, at + 2 - shift);
+        let t = number_at(code, at + 3 - shift);
+        registers[target] = combine(kind, registers[s], registers[t]);
     }
 }
 
-// Register 0 after all the instructions.
-fn execute(code: &[u16], index: &[u16; GROUPS + 1], sets: &[[u64; WORDS]; PLACES]) -> [u64; WORDS]
-    requires { ⌜ (wrongCode (now code) ≡ false) × Indexed (now index) (now sets) ⌝ }
-    ensures { λ r. ⌜ ((G : Rig) → HoldsGroups (now (index .entry)) (now (sets .entry)) G
-        → HoldsSet r (litLamps G (instructions (now (code .entry))))) ⌝ }
+// Carries out all the instructions, whose operations name three registers (`shift` 0) or two (1), in empty registers.
+pub fn execute(
+    registers: &mut [[u64; WORDS]; REGISTERS],
+    code: &[u16],
+    shift: usize,
+    index: &[u16; GROUPS + 1],
+    sets: &[[u64; WORDS]; PLACES],
+)
+    requires { ⌜ HoldsSets (now registers) empty × NoneWrong (fours (wrongIn shift) (now code)) × (shift ≤ 1) × Indexed (now index) (now sets) ⌝ }
+    ensures { λ _. ⌜ (length (now (registers .exit)) ≡ registerCount)
+        × ((G : Rig) → HoldsGroups (now (index .entry)) (now (sets .entry)) G
+        → HoldsSets (now (registers .exit)) (run G (fours (instructionIn shift) (now (code .entry))) empty)) ⌝ }
 {
-    let mut registers = [[0u64; WORDS]; REGISTERS];
     let mut at = 0;
     while 4 <= code.len() - at {
-        let i = numbers_at(code, at);
-        step(&mut registers, i, index, sets);
+        step(registers, code, at, shift, index, sets);
         at += 4;
     }
-    registers[0]
 }
 
-// The answer.
+// The answer, in register 0.
 fn answer(code: &[u16], patch: &[u16]) -> [u64; WORDS]
     requires { ⌜ (wrongCode (now code) ≡ false) × (wrongPairCount (length (now patch)) ≡ false) × (wrongPatch (now patch) ≡ false) ⌝ }
     ensures { λ r. ⌜ HoldsSet r (litLamps (rig (now (patch .entry))) (instructions (now (code .entry)))) ⌝ }
@@ -196,7 +206,9 @@ fn answer(code: &[u16], patch: &[u16]) -> [u64; WORDS]
     let mut index = [0u16; GROUPS + 1];
     let mut sets = [[0u64; WORDS]; PLACES];
     load_groups(patch, &mut index, &mut sets);
-    execute(code, &index, &sets)
+    let mut registers = [[0u64; WORDS]; REGISTERS];
+    execute(&mut registers, code, 0, &index, &sets);
+    registers[0]
 }
 
 // Writes a set into the first 64 bytes, the last byte first.

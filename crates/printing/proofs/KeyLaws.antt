@@ -10,7 +10,8 @@ use Rattle.tree.specs.Tree.{isIn}
 use Rattle.text.specs.Line.{Row}
 use Rattle.text.proofs.LineLaws.{Plain, AllPlain, lines-unique}
 use Rattle.player.specs.Instructions.{Operation, add, cut, both, Instruction, load, operate}
-use Rattle.printing.specs.Key.{LiftAnswer, Held, unmarked, heldRun, cannot, Key, refusal, answers, liftRows, heldRows, wordOf, instructionRow, instructionRows, rowsOf, text}
+use Rattle.older_player.specs.Instructions as older
+use Rattle.printing.specs.Key.{LiftAnswer, Held, unmarked, heldRun, cannot, Key, refusal, answers, liftRows, heldRows, wordOf, instructionRow, olderRow, instructionRows, rowsOf, text}
 
 abbrev letter : Row → ℕ → ℕ
 letter r i = getD (r .word) i 0
@@ -100,7 +101,7 @@ module _ {I : Type 0} (rowFor : I → Row) (R : Readable rowFor) where
   unfolding text
   text-unique k j e = sym (rows-back k) ∙ ap decode (lines-unique (rowsOf rowFor k) (rowsOf rowFor j) (all-plain k) (all-plain j) e) ∙ rows-back j
 
--- ---- 01's player: LOAD by its L, ADD by its A, CUT by its C
+-- ---- both devices: LOAD by its L, ADD by its A, CUT by its C, SHOW by its S
 word-plain : (o : Operation) → Plain (wordOf o)
 unfolding isIn
 word-plain add = record { noTab = refl; noLineFeed = refl }
@@ -148,3 +149,48 @@ newer-readable = record {
     no-78 (operate add a b c) = refl
     no-78 (operate cut a b c) = refl
     no-78 (operate both a b c) = refl
+
+pub older-readable : Readable olderRow
+unfolding isIn
+older-readable = record {
+  back = λ r. cond (eqb (letter r 0) 76) (older.load (field r 0) (field r 1)) (cond (eqb (letter r 0) 83) (older.show (field r 0)) (older.change (operationOf r) (field r 0) (field r 1)));
+  again = again;
+  plain = plain;
+  no-lift = no-73;
+  no-held = no-69;
+  no-refusal = no-78;
+}
+  where
+    again : (i : older.Instruction) → cond (eqb (letter (olderRow i) 0) 76) (older.load (field (olderRow i) 0) (field (olderRow i) 1))
+        (cond (eqb (letter (olderRow i) 0) 83) (older.show (field (olderRow i) 0)) (older.change (operationOf (olderRow i)) (field (olderRow i) 0) (field (olderRow i) 1))) ≡ i
+    again (older.load a b) = refl
+    again (older.change add a b) = refl
+    again (older.change cut a b) = refl
+    again (older.change both a b) = refl
+    again (older.show r) = refl
+
+    plain : (i : older.Instruction) → Plain (olderRow i .word)
+    plain (older.load a b) = record { noTab = refl; noLineFeed = refl }
+    plain (older.change o a b) = word-plain o
+    plain (older.show r) = record { noTab = refl; noLineFeed = refl }
+
+    no-73 : (i : older.Instruction) → eqb (letter (olderRow i) 1) 73 ≡ false
+    no-73 (older.load a b) = refl
+    no-73 (older.change add a b) = refl
+    no-73 (older.change cut a b) = refl
+    no-73 (older.change both a b) = refl
+    no-73 (older.show r) = refl
+
+    no-69 : (i : older.Instruction) → eqb (letter (olderRow i) 1) 69 ≡ false
+    no-69 (older.load a b) = refl
+    no-69 (older.change add a b) = refl
+    no-69 (older.change cut a b) = refl
+    no-69 (older.change both a b) = refl
+    no-69 (older.show r) = refl
+
+    no-78 : (i : older.Instruction) → eqb (letter (olderRow i) 0) 78 ≡ false
+    no-78 (older.load a b) = refl
+    no-78 (older.change add a b) = refl
+    no-78 (older.change cut a b) = refl
+    no-78 (older.change both a b) = refl
+    no-78 (older.show r) = refl

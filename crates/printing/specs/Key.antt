@@ -3,6 +3,7 @@ use mathlib.Core.List.{List, [], _∷_, _++_}
 use Prim.Native.Nat.{ℕ}
 use Rattle.text.specs.Line.{Row, line, lines}
 use Rattle.player.specs.Instructions.{Operation, add, cut, both, Instruction, load, operate}
+use Rattle.older_player.specs.Instructions as older
 
 -- "per lift `LIFT` number position looks"
 pub record LiftAnswer : Type 0 where
@@ -44,6 +45,10 @@ CUT = 67 ∷ 85 ∷ 84 ∷ []
 abbrev pub BOTH : List ℕ
 BOTH = 66 ∷ 79 ∷ 84 ∷ 72 ∷ []
 
+-- request 8: "a last line SHOW"
+abbrev pub SHOW : List ℕ
+SHOW = 83 ∷ 72 ∷ 79 ∷ 87 ∷ []
+
 -- a line of a word and numbers
 abbrev pub row : List ℕ → List ℕ → Row
 row word numbers = record { word = word; numbers = numbers }
@@ -73,6 +78,12 @@ wordOf both = BOTH
 abbrev pub instructionRow : Instruction → Row
 instructionRow (load target group) = row LOAD (target ∷ group ∷ [])
 instructionRow (operate o target s t) = row (wordOf o) (target ∷ s ∷ t ∷ [])
+
+-- request 8: "A second key program, otherwise alike, prints this code without unused numbers"
+abbrev pub olderRow : older.Instruction → Row
+olderRow (older.load target group) = row LOAD (target ∷ group ∷ [])
+olderRow (older.change o first second) = row (wordOf o) (first ∷ second ∷ [])
+olderRow (older.show register) = row SHOW (register ∷ [])
 
 -- ---- a whole key, of a device whose instructions have these lines
 module _ {I : Type 0} (rowFor : I → Row) where

@@ -1,9 +1,10 @@
 //! The verified program and calls beside the reference: medians of the same inputs, their ratio and its bar.
 //! The two take turns. Buffers are not cleared between calls.
 //!
-//! bench KEY_PROGRAM MARK_PROGRAM    the reference's own programs are looked for beside this one
+//! bench KEY_PROGRAM OLDER_KEY_PROGRAM MARK_PROGRAM    the reference's own programs are looked for beside this one
 
 mod bench_marks;
+mod bench_older;
 mod bench_schools;
 
 use calls::library;
@@ -31,6 +32,7 @@ const MARKS_BAR: f64 = 1.2;
 const LARGE_GROUPS_BAR: f64 = 1.2;
 const INTERSECTION_BAR: f64 = 1.2;
 const SCHOOL_BAR: f64 = 1.2;
+const OLDER_BAR: f64 = 1.0;
 const NAME_WIDTH: usize = 56;
 const KEY_BAR: Duration = Duration::from_millis(20);
 const SHEET_LIFTS: usize = 50;
@@ -287,8 +289,8 @@ fn bench_both(random: &mut Random) {
 
 fn main() -> ExitCode {
     let arguments: Vec<String> = std::env::args().skip(1).collect();
-    let [key_program, mark_program] = &arguments[..] else {
-        eprintln!("usage: bench KEY_PROGRAM MARK_PROGRAM");
+    let [key_program, older_key_program, mark_program] = &arguments[..] else {
+        eprintln!("usage: bench KEY_PROGRAM OLDER_KEY_PROGRAM MARK_PROGRAM");
         return ExitCode::FAILURE;
     };
     let this = std::env::current_exe().expect("this program's path");
@@ -296,12 +298,15 @@ fn main() -> ExitCode {
     println!("{:<NAME_WIDTH$} {:>14} {:>14} {:>7}", "medians", "verified", "reference", "ratio");
     bench_keys(Path::new(key_program), &this.with_file_name("reference_key"), &mut random());
     bench_schools::bench_key(Path::new(key_program), &this.with_file_name("reference_key"), &mut random());
+    let own_older = this.with_file_name("reference_older_key");
+    bench_older::bench_keys(Path::new(older_key_program), &own_older, &mut random());
     bench_lifts(&mut random());
     bench_schools::bench_lifts(&mut random());
     bench_gather(&mut random());
     bench_code(&mut random());
     bench_large_groups(&mut random());
     bench_both(&mut random());
+    bench_older::bench_code(&mut random());
     bench_marks::bench_marks(Path::new(mark_program), &this.with_file_name("reference_mark"), &mut random());
     ExitCode::SUCCESS
 }

@@ -56,6 +56,24 @@ mod exported {
             lamps: *mut u8,
             lamps_length: usize,
         ) -> u16;
+        #[cfg(has_older)]
+        pub fn older_encode_call(
+            tree: *const u16,
+            tree_length: usize,
+            out: *mut u16,
+            out_length: usize,
+            answer: *mut u32,
+            answer_length: usize,
+        );
+        #[cfg(has_older)]
+        pub fn older_play_call(
+            code: *const u16,
+            code_length: usize,
+            patch: *const u16,
+            patch_length: usize,
+            lamps: *mut u8,
+            lamps_length: usize,
+        ) -> u16;
     }
 }
 
@@ -160,4 +178,48 @@ pub fn play(code: &[u16], patch: &[u16], lamps: &mut [u8]) -> u16 {
     unsafe {
         exported::play_call(code.as_ptr(), code.len(), patch.as_ptr(), patch.len(), lamps.as_mut_ptr(), lamps.len())
     }
+}
+
+/// Whether the library has `older_encode_call` and `older_play_call`.
+pub const HAS_OLDER: bool = cfg!(has_older);
+
+#[cfg(has_older)]
+pub fn older_encode(tree: &[u16], out: &mut [u16]) -> EncodeAnswer {
+    let mut answer = [UNWRITTEN; 2];
+    unsafe {
+        exported::older_encode_call(
+            tree.as_ptr(),
+            tree.len(),
+            out.as_mut_ptr(),
+            out.len(),
+            answer.as_mut_ptr(),
+            answer.len(),
+        );
+    }
+    answer
+}
+
+#[cfg(has_older)]
+pub fn older_play(code: &[u16], patch: &[u16], lamps: &mut [u8]) -> u16 {
+    unsafe {
+        exported::older_play_call(
+            code.as_ptr(),
+            code.len(),
+            patch.as_ptr(),
+            patch.len(),
+            lamps.as_mut_ptr(),
+            lamps.len(),
+        )
+    }
+}
+
+/// A library without the call writes nothing.
+#[cfg(not(has_older))]
+pub fn older_encode(_: &[u16], _: &mut [u16]) -> EncodeAnswer {
+    [UNWRITTEN; 2]
+}
+
+#[cfg(not(has_older))]
+pub fn older_play(_: &[u16], _: &[u16], _: &mut [u8]) -> u16 {
+    u16::MAX
 }

@@ -2,6 +2,8 @@
 //!
 //! calls TARGET    TARGET: a folder to which failing inputs are saved
 
+mod both_players;
+mod coders;
 mod compact_tests;
 mod encode_tests;
 mod faults;
@@ -9,7 +11,10 @@ mod gather_tests;
 mod inputs;
 mod intersection_lifts;
 mod lift_tests;
+mod older_encode_tests;
+mod older_play_tests;
 mod play_tests;
+mod players;
 mod school_lifts;
 mod school_tables;
 
@@ -20,22 +25,38 @@ use std::process::ExitCode;
 
 /// How often each number must have been answered, also about the last group.
 fn least_counts() -> Vec<(String, usize)> {
-    let numbers: [(&str, &[usize]); 5] = [
+    let numbers: [(&str, &[usize]); 7] = [
         ("lift", &[0, 11, 12, 13, 14, 15, 16, 27]),
         ("lift with", &[0, 11, 12, 13, 14, 15, 16, 27, 29]),
         ("gather", &[0, 11, 12, 17, 18, 19]),
         ("encode", &[0, 12, 20]),
         ("play", &[0, 21, 22, 23, 24, 25]),
+        ("older encode", &[0, 12, 20]),
+        ("older play", &[0, 21, 22, 23, 24, 25]),
     ];
     let counts = |(call, numbers): (&str, &[usize])| -> Vec<(String, usize)> {
         numbers.iter().map(|number| (format!("{call}: answered {number}"), 30)).collect()
     };
-    let lists =
-        [("lift", 12), ("lift with", 12), ("gather", 12), ("encode", 12), ("play, code", 23), ("play, patch", 25)];
+    let lists = [
+        ("lift", 12),
+        ("lift with", 12),
+        ("gather", 12),
+        ("encode", 12),
+        ("play, code", 23),
+        ("play, patch", 25),
+        ("older encode", 12),
+        ("older play, code", 23),
+        ("older play, patch", 25),
+    ];
     let last_group = lists.map(|(list, number)| [(with_last_group(list), 100), (with_number_after(list, number), 10)]);
     let lifted: &[u32] = &[0, 12, 13, 14, 15, 16, 27];
-    let calls: [(&str, &[u32]); 4] =
-        [("lift", lifted), ("lift with", lifted), ("gather", &[0, 12, 17, 18, 19]), ("encode", &[0, 12])];
+    let calls: [(&str, &[u32]); 5] = [
+        ("lift", lifted),
+        ("lift with", lifted),
+        ("gather", &[0, 12, 17, 18, 19]),
+        ("encode", &[0, 12]),
+        ("older encode", &[0, 12]),
+    ];
     let about_intersection =
         calls.into_iter().flat_map(|(call, numbers)| numbers.iter().map(move |&number| (call, number)));
     let about_intersection = about_intersection.map(|(call, number)| (with_intersection(call, number), 20));
@@ -49,7 +70,7 @@ fn main() -> ExitCode {
         return ExitCode::FAILURE;
     };
     let mut report = Report::new(PathBuf::from(target));
-    let tests: [(&str, fn(&mut Report)); 8] = [
+    let tests: [(&str, fn(&mut Report)); 11] = [
         ("lift", lift_tests::run),
         ("lift about I", intersection_lifts::run),
         ("lift by a school's table", school_lifts::run),
@@ -58,6 +79,9 @@ fn main() -> ExitCode {
         ("compact", compact_tests::run),
         ("encode", encode_tests::run),
         ("play", play_tests::run),
+        ("older encode", older_encode_tests::run),
+        ("older play", older_play_tests::run),
+        ("both players", both_players::run),
     ];
     for (name, run) in tests {
         run(&mut report);

@@ -1,6 +1,7 @@
 //! Sheets whose keys were worked out by hand from 01.
 
 use crate::tables::file::TableFile;
+use reference::key_pair::lines_before_code;
 use reference::tree::LAST_GROUP;
 
 /// What a sheet's key must be.
@@ -21,12 +22,18 @@ pub struct Case {
     pub table: TableFile,
     pub bytes: Vec<u8>,
     pub expected: Expected,
+    /// What its key for the older player must be.
+    pub older: Expected,
 }
 
 impl Case {
-    /// A sheet without a table.
+    /// A sheet without a table. A key without code is the older player's too.
     pub fn new(name: String, bytes: Vec<u8>, expected: Expected) -> Case {
-        Case { name, table: TableFile::NotNamed, bytes, expected }
+        let older = match &expected {
+            Expected::Key(key) if lines_before_code(key) == key => expected.clone(),
+            _ => Expected::Reference,
+        };
+        Case { name, table: TableFile::NotNamed, bytes, expected, older }
     }
 }
 

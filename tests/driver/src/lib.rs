@@ -7,6 +7,8 @@ pub mod growth;
 pub mod kinds;
 pub mod limits;
 pub mod marks;
+pub mod older;
+pub mod older_cases;
 pub mod program;
 pub mod self_tests;
 pub mod sheets;

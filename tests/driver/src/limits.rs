@@ -99,12 +99,23 @@ fn group_sheets(number: u16) -> [(String, String, usize); 8] {
     ]
 }
 
+/// The older player's key where one of these sheets has this one.
+fn older_key(key: &str) -> String {
+    if key.contains("LOAD") {
+        key.replace("CUT 0 0 1/", "CUT 0 1/") + "SHOW 0/"
+    } else {
+        key.to_string()
+    }
+}
+
 fn group_edges() -> Vec<Case> {
     let mut cases = Vec::new();
     for (number, is_group) in GROUP_EDGES {
         for (sheet, key, line) in group_sheets(number) {
             let key = if is_group { key } else { format!("NO 2 {line}/") };
-            cases.push(case(&format!("{sheet:?}"), text(&sheet), Expected::Key(text(&key))));
+            let older = Expected::Key(text(&older_key(&key)));
+            let case = case(&format!("{sheet:?}"), text(&sheet), Expected::Key(text(&key)));
+            cases.push(Case { older, ..case });
         }
     }
     cases

@@ -1,17 +1,16 @@
-//! Tries a key program on fixed and random sheets and checks every key.
+//! Tries both key programs on fixed and random sheets and checks every key.
 //!
-//! driver PROGRAM VECTORS BEFORE_BOTH BEFORE_TABLES OURS TARGET [SHEETS [SEED]]
+//! driver PROGRAM OLDER_PROGRAM VECTORS OURS TARGET [SHEETS [SEED]]
 //!   PROGRAM        the key program; `--self` stands for the reference's own
-//!   VECTORS        a folder of NAME.sheet with NAME.key, and NAME.table where the program is given a table
-//!   BEFORE_BOTH    another, of sheets from before request 6
-//!   BEFORE_TABLES  another, of sheets from before request 7
+//!   OLDER_PROGRAM  the key program for the older player, or `--self`
+//!   VECTORS        a folder of NAME.sheet with NAME.key or NAME.older, and NAME.table where the program is given a table
 //!   OURS           the file of our own table
 //!   TARGET         a folder for the tables that the program is given, and to which failing sheets and keys are saved
 //!   SHEETS         so many random sheets without a table, and two for each five of them with a table
 
 use driver::cases::Case;
 use driver::tables::{cases as table_cases, least};
-use driver::{cases, generate, limits, program, self_tests, sheets, vectors};
+use driver::{cases, generate, limits, older, older_cases, program, self_tests, sheets, vectors};
 use reference::check::ensure;
 use reference::key_traits::{Marks, Trait};
 use reference::report::Report;
@@ -92,12 +91,10 @@ fn least_counts(sheets: usize) -> Vec<(String, usize)> {
 }
 
 /// All fixed sheets, with a category where they have one of their own.
-fn fixed_cases(folders: [&String; 3]) -> Result<Vec<(Option<String>, Case)>, String> {
-    let mut cases = Vec::new();
-    for folder in folders {
-        cases.extend(vectors::sheets(folder.as_ref()).map_err(|error| format!("{folder}: {error}"))?);
-    }
+fn fixed_cases(folder: &String) -> Result<Vec<(Option<String>, Case)>, String> {
+    let mut cases = vectors::sheets(folder.as_ref()).map_err(|error| format!("{folder}: {error}"))?;
     cases.extend(cases::cases());
+    cases.extend(older_cases::cases());
     cases.extend(limits::limits());
     let (one_fault, others) = table_cases::cases();
     let others = cases.into_iter().chain(others).map(|case| (None, case));
@@ -105,28 +102,34 @@ fn fixed_cases(folders: [&String; 3]) -> Result<Vec<(Option<String>, Case)>, Str
 }
 
 fn run(arguments: &[String]) -> Result<bool, String> {
-    let [program, vectors, before_both, before_tables, ours, target, rest @ ..] = arguments else {
-        let usage = "driver PROGRAM VECTORS BEFORE_BOTH BEFORE_TABLES OURS TARGET [SHEETS [SEED]]";
-        return Err(format!("usage: {usage}"));
+    let [program, older_program, vectors, ours, target, rest @ ..] = arguments else {
+        return Err("usage: driver PROGRAM OLDER_PROGRAM VECTORS OURS TARGET [SHEETS [SEED]]".to_string());
     };
     let number = |at: usize, default: u64| rest.get(at).map_or(Ok(default), |text| text.parse::<u64>());
     let random_sheets = number(0, SHEETS as u64).map_err(|error| error.to_string())? as usize;
     let table_sheets = random_sheets * 2 / 5;
     let seed = number(1, SEED).map_err(|error| error.to_string())?;
-    let program = program::named(program, "reference_key")?;
 
-    let cases = fixed_cases([vectors, before_both, before_tables])?;
+    let cases = fixed_cases(vectors)?;
     let mut report = Report::new(PathBuf::from(target));
-    let is_before = vectors::before_both(before_both.as_ref()).map_err(|error| format!("{before_both}: {error}"))?;
-    report.test("the earlier vectors have nothing of request 6", ensure(is_before, "one of them has"));
+    let is_before = vectors::before_both(vectors.as_ref()).map_err(|error| format!("{vectors}: {error}"))?;
+    report.test("the vectors from after request 5 have nothing of request 6", ensure(is_before, "one of them has"));
     self_tests::run(&cases, &mut report);
     let ours = std::fs::read(ours).map_err(|error| format!("{ours}: {error}"))?;
     self_tests::our_table(&ours, &mut report);
-    let folder = Path::new(target);
-    let subject = sheets::Subject { program: &program, folder, cases: &cases, random_sheets, table_sheets, seed };
+    let subject = sheets::Subject {
+        program: &program::named(program, "reference_key")?,
+        older_program: &program::named(older_program, "reference_older_key")?,
+        folder: Path::new(target),
+        cases: &cases,
+        random_sheets,
+        table_sheets,
+        seed,
+    };
     let mut report = subject.try_all(report).map_err(|error| format!("{target}: {error}"))?;
     report.categories(&least_counts(random_sheets));
     report.categories_met(&least::least_counts(table_sheets));
+    report.categories_met(&older::least_counts(random_sheets, table_sheets, limits::LONG_KEYS));
     Ok(report.finish("tests"))
 }
 

@@ -3,6 +3,7 @@
 use crate::cases::{Case, Expected};
 use reference::check::ensure;
 use reference::closure::{gathered_sizes, tree_sizes, Sizes, UNREACHED};
+use reference::device::Device;
 use reference::gather::columns_agree;
 use reference::key::{key_bytes, school_key_bytes};
 use reference::lift::{lift, lift_by, Table};
@@ -100,15 +101,21 @@ fn choices(groups: usize) -> impl Iterator<Item = Vec<usize>> {
     (1..1_usize << groups).map(move |choice| (0..groups).filter(|group| choice >> group & 1 == 1).collect())
 }
 
+/// The reference's key for a device is the one given.
+fn reference_key(device: Device, case: &Case, expected: &Expected, report: &mut Report) {
+    let Expected::Key(expected) = expected else { return };
+    let key = match case.table.contents() {
+        None => key_bytes(device, &case.bytes),
+        Some(table) => school_key_bytes(device, table, || case.bytes.clone()),
+    };
+    let result = ensure(*expected == key, "the reference prints another key");
+    report.saved_test(&format!("reference, {}", case.name), result, &[("sheet", &case.bytes), ("key", &key)]);
+}
+
 pub fn run(cases: &[(Option<String>, Case)], report: &mut Report) {
     for (_, case) in cases {
-        let key = match case.table.contents() {
-            None => key_bytes(&case.bytes),
-            Some(table) => school_key_bytes(table, || case.bytes.clone()),
-        };
-        let same = !matches!(&case.expected, Expected::Key(expected) if *expected != key);
-        let result = ensure(same, "the reference prints another key");
-        report.saved_test(&format!("reference, {}", case.name), result, &[("sheet", &case.bytes), ("key", &key)]);
+        reference_key(Device::Newer, case, &case.expected, report);
+        reference_key(Device::Older, case, &case.older, report);
     }
     for groups in 1..=FEW {
         report.test(&format!("functions of trees of {groups} groups"), functions_of_trees(groups));

@@ -1,17 +1,20 @@
-//! The five calls with lent buffers: the answer as numbers, and the buffer as 01 leaves it.
+//! The calls with lent buffers: the answer as numbers, and the buffer as 01 leaves it.
 
 use crate::coder::{encode, INSTRUCTION_NUMBERS};
 use crate::compact;
 use crate::gather::gather;
 use crate::lift::{lift_by, Lifted, Table};
+use crate::older_player::MAXIMUM_INSTRUCTIONS;
 use crate::player::{play, LAMP_BYTES};
 use crate::refusal::{Refusal, SHORT_CODE_BUFFER, SHORT_TREE_BUFFER, TABLE_WORD, UNDER_64_BYTES};
 use crate::table::School;
 use crate::tree::MAXIMUM_NODES;
+use crate::{older_coder, older_player};
 
 /// The least buffers of the calls.
 pub const TREE_BUFFER: usize = MAXIMUM_NODES;
 pub const CODE_BUFFER: usize = MAXIMUM_NODES * INSTRUCTION_NUMBERS;
+pub const OLDER_CODE_BUFFER: usize = MAXIMUM_INSTRUCTIONS * INSTRUCTION_NUMBERS;
 
 /// Number, length, position, looks; all but the number are 0 when refused.
 pub type LiftAnswer = [u32; 4];
@@ -80,22 +83,38 @@ pub fn compact_gather_call(tree: &[u16], marks: &[u16], out: &mut [u16]) -> Gath
     gathered(out, || compact::gather(tree, marks))
 }
 
-pub fn encode_call(tree: &[u16], out: &mut [u16]) -> EncodeAnswer {
-    match written(out, CODE_BUFFER, SHORT_CODE_BUFFER, || Ok((encode(tree)?, ()))) {
+fn coded(out: &mut [u16], least: usize, call: impl FnOnce() -> Result<Vec<u16>, Refusal>) -> EncodeAnswer {
+    match written(out, least, SHORT_CODE_BUFFER, || Ok((call()?, ()))) {
         Ok((length, ())) => [0, length / INSTRUCTION_NUMBERS as u32],
         Err(number) => [number.into(), 0],
     }
 }
 
-pub fn play_call(code: &[u16], patch: &[u16], lamps: &mut [u8]) -> Refusal {
+pub fn encode_call(tree: &[u16], out: &mut [u16]) -> EncodeAnswer {
+    coded(out, CODE_BUFFER, || encode(tree))
+}
+
+pub fn older_encode_call(tree: &[u16], out: &mut [u16]) -> EncodeAnswer {
+    coded(out, OLDER_CODE_BUFFER, || older_coder::encode(tree))
+}
+
+fn played(lamps: &mut [u8], call: impl FnOnce() -> Result<[u8; LAMP_BYTES], Refusal>) -> Refusal {
     if lamps.len() < LAMP_BYTES {
         return UNDER_64_BYTES;
     }
-    match play(code, patch) {
+    match call() {
         Ok(lit) => {
             lamps[..LAMP_BYTES].copy_from_slice(&lit);
             0
         }
         Err(number) => number,
     }
+}
+
+pub fn play_call(code: &[u16], patch: &[u16], lamps: &mut [u8]) -> Refusal {
+    played(lamps, || play(code, patch))
+}
+
+pub fn older_play_call(code: &[u16], patch: &[u16], lamps: &mut [u8]) -> Refusal {
+    played(lamps, || older_player::play(code, patch))
 }

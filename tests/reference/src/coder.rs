@@ -19,7 +19,7 @@ struct Coder<'a> {
 }
 
 /// The registers that each node needs.
-fn needs(nodes: &Nodes) -> Vec<u8> {
+pub fn needs(nodes: &Nodes) -> Vec<u8> {
     let mut needs: Vec<u8> = Vec::with_capacity(nodes.count());
     for node in 0..nodes.count() {
         needs.push(match nodes.node(node) {
@@ -31,17 +31,22 @@ fn needs(nodes: &Nodes) -> Vec<u8> {
     needs
 }
 
+/// The kind of instruction that works out an operator.
+pub fn kind_of(operator: Operator) -> u16 {
+    match operator {
+        Operator::Union => ADD,
+        Operator::Difference => CUT,
+        Operator::Intersection => BOTH,
+    }
+}
+
 impl Coder<'_> {
     fn code(&mut self, node: usize, target: u16) {
         self.before[node] = self.code.len() / INSTRUCTION_NUMBERS;
         match self.nodes.node(node) {
             Node::Leaf(group) => self.code.extend([LOAD, target, group, 0]),
             Node::Branch { operator, left, right } => {
-                let kind = match operator {
-                    Operator::Union => ADD,
-                    Operator::Difference => CUT,
-                    Operator::Intersection => BOTH,
-                };
+                let kind = kind_of(operator);
                 if self.needs[right] > self.needs[left] {
                     self.code(right, target);
                     self.code(left, target + 1);
@@ -69,7 +74,8 @@ pub fn encode(list: &[u16]) -> Result<Vec<u16>, Refusal> {
     Ok(coded(&nodes).code)
 }
 
-/// The run of the node at `position` of a tree: its first instruction from 1, and its length.
+/// The run of the node at `position` of a tree: its first instruction from 1, and its length. The older player's code
+/// has its nodes in the same order.
 pub fn run(list: &[u16], position: usize) -> (usize, usize) {
     let nodes = Nodes::parse(list).expect("a tree");
     (coded(&nodes).before[position] + 1, nodes.size(position))

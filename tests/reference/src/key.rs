@@ -1,6 +1,7 @@
-//! The key (01, "The key program"): made from a sheet, printed, and read back.
+//! The key (01, "The key program"): made from a sheet for a device, printed, and read back.
 
-use crate::coder::{encode, run, ADD, BOTH, CUT, INSTRUCTION_NUMBERS, LOAD};
+use crate::coder::{run, INSTRUCTION_NUMBERS};
+use crate::device::Device;
 use crate::gather::gather;
 use crate::lift::{lift_noting_steps, Step, Table};
 use crate::refusal::{Refusal, INTERSECTION_ABOVE, NO_STEP, RESULT_TOO_LONG};
@@ -15,6 +16,7 @@ pub enum Held {
 
 #[derive(Debug, Default, PartialEq, Eq)]
 pub struct Key {
+    pub device: Device,
     /// Number, position and looks.
     pub lifts: Vec<(usize, usize, usize)>,
     pub held: Option<Held>,
@@ -72,36 +74,39 @@ pub fn lifts_by(table: Table, sheet: &Sheet) -> Lifts {
 }
 
 /// The key of a sheet with these marks after its lifts.
-pub fn key(lifts: &Lifts, marks: &[u16]) -> Key {
-    let lines = lifts.lines.clone();
+pub fn key(device: Device, lifts: &Lifts, marks: &[u16]) -> Key {
+    let coded = |tree: &[u16], held: Option<Held>| {
+        let code = device.encode(tree).expect("a tree");
+        Key { device, lifts: lifts.lines.clone(), held, code }
+    };
     if marks.is_empty() {
-        return Key { lifts: lines, held: None, code: encode(&lifts.tree).expect("a tree") };
+        return coded(&lifts.tree, None);
     }
     match gather(&lifts.tree, marks) {
         Ok((gathered, holder)) => {
             let (first, count) = run(&gathered, holder);
-            Key { lifts: lines, held: Some(Held::At { first, count }), code: encode(&gathered).expect("a tree") }
+            coded(&gathered, Some(Held::At { first, count }))
         }
-        Err(number) => Key { lifts: lines, held: Some(Held::Cannot(number)), code: Vec::new() },
+        Err(number) => Key { device, lifts: lifts.lines.clone(), held: Some(Held::Cannot(number)), code: Vec::new() },
     }
 }
 
 /// The key's bytes for any bytes, by our own table.
-pub fn key_bytes(bytes: &[u8]) -> Vec<u8> {
-    key_bytes_by(Table::Ours, bytes)
+pub fn key_bytes(device: Device, bytes: &[u8]) -> Vec<u8> {
+    key_bytes_by(device, Table::Ours, bytes)
 }
 
-pub fn key_bytes_by(table: Table, bytes: &[u8]) -> Vec<u8> {
+pub fn key_bytes_by(device: Device, table: Table, bytes: &[u8]) -> Vec<u8> {
     match read(bytes) {
-        Ok(sheet) => key(&lifts_by(table, &sheet), &sheet.marks).print(),
+        Ok(sheet) => key(device, &lifts_by(table, &sheet), &sheet.marks).print(),
         Err(fault) => fault.print(),
     }
 }
 
 /// The key's bytes by the table of a file's bytes; a refused table is all that is looked at.
-pub fn school_key_bytes(table: &[u8], sheet: impl FnOnce() -> Vec<u8>) -> Vec<u8> {
+pub fn school_key_bytes(device: Device, table: &[u8], sheet: impl FnOnce() -> Vec<u8>) -> Vec<u8> {
     match School::load(table) {
-        Ok(school) => key_bytes_by(Table::School(&school), &sheet()),
+        Ok(school) => key_bytes_by(device, Table::School(&school), &sheet()),
         Err(fault) => fault.print(),
     }
 }
@@ -136,12 +141,7 @@ impl Key {
             None => {}
         }
         for instruction in self.code.chunks(INSTRUCTION_NUMBERS) {
-            let (name, count) = match instruction[0] {
-                LOAD => ("LOAD", 2),
-                ADD => ("ADD", 3),
-                CUT => ("CUT", 3),
-                _ => ("BOTH", 3),
-            };
+            let (name, count) = self.device.form(instruction[0]);
             let numbers: Vec<usize> = instruction[1..=count].iter().map(|&number| usize::from(number)).collect();
             line(name, &numbers, &mut bytes);
         }
@@ -149,8 +149,8 @@ impl Key {
     }
 
     /// The key that prints as these bytes exactly.
-    pub fn parse(bytes: &[u8]) -> Option<Key> {
-        let mut key = Key::default();
+    pub fn parse(device: Device, bytes: &[u8]) -> Option<Key> {
+        let mut key = Key { device, ..Key::default() };
         for line in std::str::from_utf8(bytes).ok()?.lines() {
             let mut fields = line.split('\t');
             let name = fields.next()?;
@@ -165,18 +165,7 @@ impl Key {
             ("LIFT", &[number, position, looks]) => self.lifts.push((number, position, looks)),
             ("HELD", &[0, first, count]) => self.held = Some(Held::At { first, count }),
             ("HELD", &[number]) => self.held = Some(Held::Cannot(number.try_into().ok()?)),
-            ("LOAD", &[target, group]) => self.add_instruction([LOAD.into(), target, group, 0])?,
-            ("ADD", &[target, left, right]) => self.add_instruction([ADD.into(), target, left, right])?,
-            ("CUT", &[target, left, right]) => self.add_instruction([CUT.into(), target, left, right])?,
-            ("BOTH", &[target, left, right]) => self.add_instruction([BOTH.into(), target, left, right])?,
-            _ => return None,
-        }
-        Some(())
-    }
-
-    fn add_instruction(&mut self, numbers: [usize; INSTRUCTION_NUMBERS]) -> Option<()> {
-        for number in numbers {
-            self.code.push(number.try_into().ok()?);
+            _ => self.code.extend(self.device.instruction(name, numbers)?),
         }
         Some(())
     }

@@ -1,41 +1,49 @@
-//! Checks of a printed key: byte for byte where 01 fixes it, by what 01 asks where it is free.
+//! Checks of a printed key, of either device: byte for byte where 01 fixes it, by what 01 asks where it is free.
 
 use crate::check::{ensure, gathered_tree};
-use crate::coder::{encode, run, ADD, BOTH, CUT, INSTRUCTION_NUMBERS, LOAD, REGISTERS};
+use crate::coder::{run, ADD, BOTH, CUT, INSTRUCTION_NUMBERS, LOAD, REGISTERS};
+use crate::device::Device;
 use crate::gather::{gather, holder};
-use crate::key::{key, lifts_by, Held, Key};
+use crate::key::{key, lifts_by, Held, Key, Lifts};
 use crate::key_traits::{group_traits, intersection_traits, lift_traits, refused_table_traits, school_traits};
 use crate::key_traits::{marks, refused_traits, Marks, Trait};
 use crate::lift::Table;
-use crate::player::{index, lamp_bytes, play, LAST_LAMP};
+use crate::player::{index, lamp_bytes, LAST_LAMP};
 use crate::random::Random;
 use crate::refusal::{INTERSECTION_ABOVE, NOT_GATHERABLE};
 use crate::sheet::{read, Sheet, SHEET_NODES};
 use crate::table::School;
 use crate::tree::{groups, select, without_intersection, Nodes, Operator, LAST_GROUP};
 
-/// The tree that instructions compute in register 0, if each result is used once.
-pub fn decode(code: &[u16]) -> Option<Vec<u16>> {
+fn operator_of(kind: u16) -> Option<Operator> {
+    match kind {
+        ADD => Some(Operator::Union),
+        CUT => Some(Operator::Difference),
+        BOTH => Some(Operator::Intersection),
+        _ => None,
+    }
+}
+
+/// The tree that instructions compute as their answer, if each result is used once.
+pub fn decode(device: Device, code: &[u16]) -> Option<Vec<u16>> {
+    let (computing, answer) = device.computing(code)?;
     let mut nodes = Nodes::default();
     let mut registers: [Option<usize>; REGISTERS as usize] = [None; REGISTERS as usize];
-    for instruction in code.chunks(INSTRUCTION_NUMBERS) {
-        let [kind, target, first, second] = *instruction else { return None };
+    for instruction in computing.chunks_exact(INSTRUCTION_NUMBERS) {
         let operand = |register: u16| registers.get(usize::from(register)).copied().flatten();
-        let node = match kind {
-            LOAD if (1..=LAST_GROUP).contains(&first) => nodes.leaf(first),
-            ADD => nodes.branch(Operator::Union, operand(first)?, operand(second)?),
-            CUT => nodes.branch(Operator::Difference, operand(first)?, operand(second)?),
-            BOTH => nodes.branch(Operator::Intersection, operand(first)?, operand(second)?),
+        let node = match (instruction[0], device.registers(instruction).0) {
+            (LOAD, []) if (1..=LAST_GROUP).contains(&instruction[2]) => nodes.leaf(instruction[2]),
+            (kind, &[left, right]) => nodes.branch(operator_of(kind)?, operand(left)?, operand(right)?),
             _ => return None,
         };
-        *registers.get_mut(usize::from(target))? = Some(node);
+        *registers.get_mut(usize::from(instruction[1]))? = Some(node);
     }
-    let root = registers[0]?;
-    (nodes.size(root) == code.len() / INSTRUCTION_NUMBERS).then(|| nodes.postfix(root))
+    let root = registers.get(usize::from(answer)).copied().flatten()?;
+    (nodes.size(root) * INSTRUCTION_NUMBERS == computing.len()).then(|| nodes.postfix(root))
 }
 
 /// Random pairs, mostly for these groups.
-fn random_patch(groups: &[u16], random: &mut Random) -> Vec<u16> {
+pub fn random_patch(groups: &[u16], random: &mut Random) -> Vec<u16> {
     let mut patch = Vec::new();
     for _ in 0..random.pick(&[0, 5, 40, 200]) {
         let any = random.between(1, usize::from(LAST_GROUP)) as u16;
@@ -45,49 +53,49 @@ fn random_patch(groups: &[u16], random: &mut Random) -> Vec<u16> {
     patch
 }
 
-/// Played, the instructions light what the tree selects.
-fn lamps(code: &[u16], tree: &[u16], random: &mut Random) -> Result<(), String> {
-    let patch = random_patch(&groups(tree), random);
-    let lit = play(code, &patch).map_err(|number| format!("the player refuses the code with {number}"))?;
-    let contents = index(&patch);
+/// Played with this patch, a key's instructions light what the tree selects.
+pub fn lamps(key: &Key, tree: &[u16], patch: &[u16]) -> Result<(), String> {
+    let played = key.device.play(&key.code, patch);
+    let lit = played.map_err(|number| format!("the player refuses the code with {number}"))?;
+    let contents = index(patch);
     let selected = select(tree, |group| contents.get(&group).copied().unwrap_or_default());
     ensure(lit == lamp_bytes(&selected), "the lamps lit are not those of the tree as written")
 }
 
-/// The run is closed and loads marked groups only, and no marked group is loaded elsewhere.
-fn closed_run(code: &[u16], first: usize, count: usize, marks: &[u16]) -> Result<(), String> {
+/// The run is closed and loads marked groups only, and no marked group is loaded elsewhere. SHOW is in no run, and the
+/// register that it names is read after it.
+fn closed_run(key: &Key, first: usize, count: usize, marks: &[u16]) -> Result<(), String> {
     let run = first..first + count;
     let mut written = [false; REGISTERS as usize];
     let mut stale = [false; REGISTERS as usize];
-    for (number, instruction) in (1..).zip(code.chunks(INSTRUCTION_NUMBERS)) {
-        let target = usize::from(instruction[1]);
+    for (number, instruction) in (1..).zip(key.code.chunks(INSTRUCTION_NUMBERS)) {
+        let inside = run.contains(&number);
         if instruction[0] == LOAD {
-            let marked = marks.contains(&instruction[2]);
-            ensure(
-                marked == run.contains(&number),
-                &format!("instruction {number} loads on the wrong side of the run"),
-            )?;
-        } else {
-            for &operand in &instruction[2..] {
-                let own = !run.contains(&number) || written[usize::from(operand)];
-                ensure(own && !stale[usize::from(operand)], &format!("instruction {number} breaks the closed run"))?;
-            }
+            let fault = format!("instruction {number} loads on the wrong side of the run");
+            ensure(marks.contains(&instruction[2]) == inside, &fault)?;
         }
+        let (read, target) = key.device.registers(instruction);
+        for &operand in read {
+            let own = !inside || written[usize::from(operand)];
+            ensure(own && !stale[usize::from(operand)], &format!("instruction {number} breaks the closed run"))?;
+        }
+        let Some(target) = target.map(usize::from) else { return ensure(!inside, "SHOW is in the run") };
         stale[target] = false;
-        written[target] |= run.contains(&number);
+        written[target] |= inside;
         if number + 1 == run.end {
             stale = written;
             stale[target] = false;
         }
     }
-    ensure(run.end <= code.len() / INSTRUCTION_NUMBERS + 1, "the run passes the code's end")
+    ensure(run.end <= key.code.len() / INSTRUCTION_NUMBERS + 1, "the run passes the code's end")
 }
 
 /// A key's instructions and `HELD` line where the gathered tree is free.
 fn free_code(sheet: &Sheet, after_lifts: &[u16], printed: &Key) -> Result<(), String> {
-    let tree = decode(&printed.code).ok_or("the instructions do not compute a tree")?;
+    let tree = decode(printed.device, &printed.code).ok_or("the instructions do not compute a tree")?;
     let nodes = Nodes::parse(&tree).ok_or("the instructions compute no tree of 1 to 8,191 nodes")?;
-    ensure(encode(&tree).as_deref() == Ok(&printed.code), "the instructions are not 01's code of their tree")?;
+    let code = printed.device.encode(&tree);
+    ensure(code.as_deref() == Ok(&printed.code), "the instructions are not 01's code of their tree")?;
     let holder = holder(&nodes, &sheet.marks).ok_or("the coded tree is not gathered")?;
     for given in [after_lifts, &sheet.tree] {
         gathered_tree(given, &sheet.marks, &tree, holder)?;
@@ -134,13 +142,33 @@ fn verdict(sheet: &Sheet, printed: &Key) -> Result<(), String> {
     ensure(refused == due, "the verdict is not that on the tree as written")
 }
 
-fn accepted(table: Table, sheet: &Sheet, printed: &[u8], random: &mut Random) -> Result<Vec<Trait>, String> {
+/// What a sheet and its key show.
+fn traits(table: Table, sheet: &Sheet, lifts: &Lifts, marks: Marks, printed: &Key) -> Vec<Trait> {
+    let mut traits = lift_traits(lifts);
+    traits.extend(group_traits(sheet, &printed.code));
+    traits.extend(intersection_traits(sheet, &lifts.tree, marks));
+    traits.extend(school_traits(table, sheet, lifts));
+    traits.push(Trait::Marked(marks));
+    if sheet.tree.len() == SHEET_NODES {
+        traits.push(Trait::MostNodes);
+    }
+    traits
+}
+
+/// A printed key, its device, and where the key's patch comes from.
+pub struct Printed<'a> {
+    pub device: Device,
+    pub bytes: &'a [u8],
+    pub random: &'a mut Random,
+}
+
+fn accepted(table: Table, sheet: &Sheet, printed: Printed) -> Result<Vec<Trait>, String> {
     let lifts = lifts_by(table, sheet);
-    let expected = key(&lifts, &sheet.marks);
+    let expected = key(printed.device, &lifts, &sheet.marks);
     let marks = marks(sheet, &lifts.tree, &expected);
-    let parsed = Key::parse(printed);
+    let parsed = Key::parse(printed.device, printed.bytes);
     if marks != Marks::Gatherable {
-        same_bytes(printed, &expected.print())?;
+        same_bytes(printed.bytes, &expected.print())?;
     }
     let parsed = parsed.ok_or("the bytes are not those of a key")?;
     looks(sheet, &parsed)?;
@@ -151,39 +179,26 @@ fn accepted(table: Table, sheet: &Sheet, printed: &[u8], random: &mut Random) ->
         free_code(sheet, &lifts.tree, &parsed)?;
     }
     if marks != Marks::NotGatherable {
-        lamps(&parsed.code, &sheet.tree, random)?;
+        lamps(&parsed, &sheet.tree, &random_patch(&groups(&sheet.tree), printed.random))?;
     }
     if let Some(Held::At { first, count }) = parsed.held {
-        closed_run(&parsed.code, first, count, &sheet.marks)?;
+        closed_run(&parsed, first, count, &sheet.marks)?;
     }
-    let mut traits = lift_traits(&lifts);
-    traits.extend(group_traits(sheet, &parsed.code));
-    traits.extend(intersection_traits(sheet, &lifts.tree, marks));
-    traits.extend(school_traits(table, sheet, &lifts));
-    traits.push(Trait::Marked(marks));
-    if sheet.tree.len() == SHEET_NODES {
-        traits.push(Trait::MostNodes);
-    }
-    Ok(traits)
+    Ok(traits(table, sheet, &lifts, marks, &parsed))
 }
 
-fn key_by(table: Table, bytes: &[u8], printed: &[u8], random: &mut Random) -> Result<Vec<Trait>, String> {
+fn key_by(table: Table, bytes: &[u8], printed: Printed) -> Result<Vec<Trait>, String> {
     match read(bytes) {
-        Ok(sheet) => accepted(table, &sheet, printed, random),
-        Err(fault) => same_bytes(printed, &fault.print()).map(|()| refused_traits(bytes, &fault)),
+        Ok(sheet) => accepted(table, &sheet, printed),
+        Err(fault) => same_bytes(printed.bytes, &fault.print()).map(|()| refused_traits(bytes, &fault)),
     }
 }
 
 /// Checks the key that a program printed for any bytes, with a school's table or without.
-pub fn sheet_key(
-    table: Option<&[u8]>,
-    bytes: &[u8],
-    printed: &[u8],
-    random: &mut Random,
-) -> Result<Vec<Trait>, String> {
+pub fn sheet_key(table: Option<&[u8]>, bytes: &[u8], printed: Printed) -> Result<Vec<Trait>, String> {
     match table.map(School::load) {
-        None => key_by(Table::Ours, bytes, printed, random),
-        Some(Ok(school)) => key_by(Table::School(&school), bytes, printed, random),
-        Some(Err(fault)) => same_bytes(printed, &fault.print()).map(|()| refused_table_traits(bytes, &fault)),
+        None => key_by(Table::Ours, bytes, printed),
+        Some(Ok(school)) => key_by(Table::School(&school), bytes, printed),
+        Some(Err(fault)) => same_bytes(printed.bytes, &fault.print()).map(|()| refused_table_traits(bytes, &fault)),
     }
 }

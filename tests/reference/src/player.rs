@@ -41,6 +41,14 @@ fn is_pair(pair: &[u16]) -> bool {
     (1..=LAST_GROUP).contains(&pair[0]) && (1..=LAST_LAMP).contains(&pair[1])
 }
 
+/// The first fault of a patch.
+pub fn patch_fault(patch: &[u16]) -> Option<Refusal> {
+    if patch.len() % 2 != 0 || patch.len() / 2 > MAXIMUM_PAIRS {
+        return Some(PATCH_LENGTH);
+    }
+    (!patch.chunks_exact(2).all(is_pair)).then_some(PAIR)
+}
+
 /// The first fault of the code and the patch.
 fn fault(code: &[u16], patch: &[u16]) -> Option<Refusal> {
     let count = code.len() / INSTRUCTION_NUMBERS;
@@ -50,10 +58,7 @@ fn fault(code: &[u16], patch: &[u16]) -> Option<Refusal> {
     if !code.chunks_exact(INSTRUCTION_NUMBERS).all(is_instruction) {
         return Some(INSTRUCTION);
     }
-    if patch.len() % 2 != 0 || patch.len() / 2 > MAXIMUM_PAIRS {
-        return Some(PATCH_LENGTH);
-    }
-    (!patch.chunks_exact(2).all(is_pair)).then_some(PAIR)
+    patch_fault(patch)
 }
 
 /// The lamps lit, or 22 to 25.

@@ -93,3 +93,33 @@ pub unsafe extern "C" fn play_call(
     let (code, patch) = (from_raw_parts(code, code_length), from_raw_parts(patch, patch_length));
     calls::play_call(code, patch, from_raw_parts_mut(lamps, lamps_length))
 }
+
+/// # Safety
+/// As for `lift_call`.
+#[no_mangle]
+pub unsafe extern "C" fn older_encode_call(
+    tree: *const u16,
+    tree_length: usize,
+    out: *mut u16,
+    out_length: usize,
+    answer: *mut u32,
+    answer_length: usize,
+) {
+    let numbers = calls::older_encode_call(from_raw_parts(tree, tree_length), from_raw_parts_mut(out, out_length));
+    from_raw_parts_mut(answer, answer_length).copy_from_slice(&numbers);
+}
+
+/// # Safety
+/// As for `lift_call`.
+#[no_mangle]
+pub unsafe extern "C" fn older_play_call(
+    code: *const u16,
+    code_length: usize,
+    patch: *const u16,
+    patch_length: usize,
+    lamps: *mut u8,
+    lamps_length: usize,
+) -> u16 {
+    let (code, patch) = (from_raw_parts(code, code_length), from_raw_parts(patch, patch_length));
+    calls::older_play_call(code, patch, from_raw_parts_mut(lamps, lamps_length))
+}

@@ -95,7 +95,7 @@ returns c =
     let lift-all = c .before .before .before .before .before .before .before .before .before .before .lift-all in
     λ m K st R. let I = is-read R in
     let L = lift-all .ensures m K (I .has .tree) (st .lifts) (read-copied I (zeros-length 8191) (copy .ensures)) (I .asks) in
-    read-answered I (table-right K) L (c .before .before .finish .ensures _ (L .holds) (read-marks I (table-right K)))
+    read-answered I (args .device) (table-right K) L (c .before .before .finish .ensures _ (L .holds) (read-marks I (table-right K)))
 
 pub answer-sheet-spec : {M : Type 1} → statement M
 answer-sheet-spec =

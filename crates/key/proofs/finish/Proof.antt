@@ -13,7 +13,7 @@ returns : tie.Need-returns
 returns c =
     let args = c .before .before .before .before .before .before .before .before .args in
     let if1 = c .before .before .before .before .if1 in
-    λ u w m. finished-plain (w .most) (empty-list (args .marks .now) (if1 .taken)) (c .before .before .put-tree-code .ensures u w)
+    λ u w m. finished-plain (args .device) (w .most) (empty-list (args .marks .now) (if1 .taken)) (c .before .before .put-tree-code .ensures u w)
 
 put-held-requires : tie.Need-put-held-requires
 put-held-requires c κs = search needs

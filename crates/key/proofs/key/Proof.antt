@@ -7,7 +7,7 @@ use Rattle.key.proofs.key.Statement.{statement}
 use Rattle.key.proofs.key.Tie as tie
 
 returns : tie.Need-returns
-returns c = call-short _ _ (c .before .before .before .args .out .now) (c .if1 .taken)
+returns c = call-short _ _ _ (c .before .before .before .args .out .now) (c .if1 .taken)
 
 slice-aggregate-key-by : tie.Need-slice-aggregate-key-by
 slice-aggregate-key-by c = search needs
@@ -22,7 +22,7 @@ same-length : tie.Need-same-length
 same-length c = search needs
 
 returns-2 : tie.Need-returns-2
-returns-2 c = call-by ours (c .before .before .before .before .before .before .before .before .before .args .sheet .now) (c .before .before .before .before .before .before .if1 .left) (c .before .before .key-by .ensures ours (record { by = refl }))
+returns-2 c = call-by (c .before .before .before .before .before .before .before .before .before .args .device) ours (c .before .before .before .before .before .before .before .before .before .args .sheet .now) (c .before .before .before .before .before .before .if1 .left) (c .before .before .key-by .ensures ours (record { by = refl }))
 
 pub key-spec : {M : Type 1} → statement M
 key-spec =

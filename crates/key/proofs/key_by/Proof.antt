@@ -12,8 +12,8 @@ read-requires c κs = search needs
 slice-aggregate-put-line : tie.Need-slice-aggregate-put-line
 slice-aggregate-put-line c = search needs
 
-cast-t12 : tie.Need-cast-t12
-cast-t12 c = search needs
+cast-t13 : tie.Need-cast-t13
+cast-t13 c = search needs
 
 slice-aggregate-put-line-2 : tie.Need-slice-aggregate-put-line-2
 slice-aggregate-put-line-2 c = search needs
@@ -33,7 +33,7 @@ returns c = λ m K.
     let r = c .before .before .before .before .before .before .before .read in
     let put-line = c .before .before .put-line in
     let w = put-line .ensures in
-    wrote-refused m (args .sheet .now) (args .out .now) (put-line .last .1 .1 .0) (put-line .result) (r .result) (r .ensures) (if1 .taken)
+    wrote-refused (args .device) m (args .sheet .now) (args .out .now) (put-line .last .1 .1 .0) (put-line .result) (r .result) (r .ensures) (if1 .taken)
     (omega (arith, w .ends, no-most (r .result .number) (r .result .line) (omega (arith, r .ok)) (omega (arith, r .ok)))) w
 
 answer-sheet-requires : tie.Need-answer-sheet-requires
@@ -50,7 +50,7 @@ returns-2 c = λ m K.
     let args = c .before .before .before .before .before .before .before .before .before .before .args in
     let read = c .before .before .before .before .before .read in
     let z = accepted-read (args .sheet .now) (read .result) (read .ensures) (c .before .before .before .before .if1 .left) in
-    wrote-accepted m (args .sheet .now) (z .1 .accepts) (c .before .before .answer-sheet .ensures m K (z .0) (z .1))
+    wrote-accepted (args .device) m (args .sheet .now) (z .1 .accepts) (c .before .before .answer-sheet .ensures m K (z .0) (z .1))
 
 pub key-by-spec : {M : Type 1} → statement M
 key-by-spec =
@@ -58,7 +58,7 @@ key-by-spec =
     (tie.spec
     read-requires
     slice-aggregate-put-line
-    cast-t12
+    cast-t13
     slice-aggregate-put-line-2
     put-line-requires
     same-length

@@ -8,7 +8,7 @@ use Rattle.key.proofs.key_with.Statement.{statement}
 use Rattle.key.proofs.key_with.Tie as tie
 
 returns : tie.Need-returns
-returns c = call-short _ _ (c .before .before .before .before .args .out .now) (c .if1 .taken)
+returns c = call-short _ _ _ (c .before .before .before .before .args .out .now) (c .if1 .taken)
 
 load-requires : tie.Need-load-requires
 load-requires c κs = search needs
@@ -16,8 +16,8 @@ load-requires c κs = search needs
 slice-aggregate-put-line : tie.Need-slice-aggregate-put-line
 slice-aggregate-put-line c = search needs
 
-cast-t17 : tie.Need-cast-t17
-cast-t17 c = search needs
+cast-t18 : tie.Need-cast-t18
+cast-t18 c = search needs
 
 slice-aggregate-put-line-2 : tie.Need-slice-aggregate-put-line-2
 slice-aggregate-put-line-2 c = search needs
@@ -35,8 +35,8 @@ returns-2 c =
     let args = c .before .before .before .before .before .before .before .before .before .before .before .before .args in
     let load = c .before .before .before .before .before .before .before .load in
     let w = c .before .before .put-line .ensures in
-    school-refused (args .table .now) (args .sheet .now) (c .before .before .before .before .before .before .before .before .if1 .left) (load .result .number) (load .result .line) (answer-refused (args .table .now) (load .result) (load .ensures) (c .before .before .before .before .before .before .if2 .taken))
-    (omega (arith, w .ends, short-line (args .table .now) (load .result) (load .ensures) (c .before .before .before .before .before .before .if2 .taken))) (wrote-as w (refusal-text (load .result .number) (load .result .line)))
+    school-refused (args .device) (args .table .now) (args .sheet .now) (c .before .before .before .before .before .before .before .before .if1 .left) (load .result .number) (load .result .line) (answer-refused (args .table .now) (load .result) (load .ensures) (c .before .before .before .before .before .before .if2 .taken))
+    (omega (arith, w .ends, short-line (args .table .now) (load .result) (load .ensures) (c .before .before .before .before .before .before .if2 .taken))) (wrote-as w (refusal-text (args .device) (load .result .number) (load .result .line)))
 
 slice-aggregate-key-by : tie.Need-slice-aggregate-key-by
 slice-aggregate-key-by c = search needs
@@ -58,7 +58,7 @@ returns-3 c =
     let args = c .before .before .before .before .before .before .before .before .before .before .before .before .before .before .before .args in
     let load = c .before .before .before .before .before .before .before .before .before .before .load in
     let L = loaded-as (args .table .now) (load .result) (load .ensures) (c .before .before .before .before .before .before .before .before .before .if2 .left) in
-    school-written (args .table .now) (args .sheet .now) (c .before .before .before .before .before .before .before .before .before .before .before .if1 .left) (L .entries) (L .is) (c .before .before .key-by .ensures _ (L .holds))
+    school-written (args .device) (args .table .now) (args .sheet .now) (c .before .before .before .before .before .before .before .before .before .before .before .if1 .left) (L .entries) (L .is) (c .before .before .key-by .ensures _ (L .holds))
 
 pub key-with-spec : {M : Type 1} → statement M
 key-with-spec =
@@ -67,7 +67,7 @@ key-with-spec =
     returns
     load-requires
     slice-aggregate-put-line
-    cast-t17
+    cast-t18
     slice-aggregate-put-line-2
     put-line-requires
     same-length

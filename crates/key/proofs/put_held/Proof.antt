@@ -38,8 +38,8 @@ line-here r =
     let D = done-here (r .before .before .before) .to in
     run-line (D .result) _ _ (D .gathered) (D .most) _ (gathered-list D .list) (r .run-of .result) (r .run-of .ensures)
 
-cast-t13 : tie.Need-cast-t13
-cast-t13 c = search needs
+cast-t14 : tie.Need-cast-t14
+cast-t14 c = search needs
 
 slice-aggregate-gather : tie.Need-slice-aggregate-gather
 slice-aggregate-gather c = search needs
@@ -73,7 +73,7 @@ returns c =
     let args = c .before .before .before .before .before .before .before .before .before .before .before .before .before .before .args in
     let gather = c .before .before .before .before .before .before .before .before .before .gather in
     let enum-told = c .before .before .before .before .before .before .enum-told in
-    λ u w m. finished-never (pre .0) (gathered-never (args .tree .now) (args .marks .now) (replicate 8191 0) (gather .last .1 .1 .0) (gather .result) u w m (pre .0) (zeros-length 8191) (gather .ensures) (enum-told .given .0 .0) (enum-told .given .1)) (c .before .before .put-line .ensures)
+    λ u w m. finished-never (args .device) (pre .0) (gathered-never (args .tree .now) (args .marks .now) (replicate 8191 0) (gather .last .1 .1 .0) (gather .result) u w m (pre .0) (zeros-length 8191) (gather .ensures) (enum-told .given .0 .0) (enum-told .given .1)) (c .before .before .put-line .ensures)
 
 array-share-prefix-gathered : tie.Need-array-share-prefix-gathered
 array-share-prefix-gathered c = gathered-long (done-here (c .before) .to)
@@ -112,14 +112,14 @@ returns-2 : tie.Need-returns-2
 returns-2 c = λ u w m.
     let D = done (c .before .before .before .before .before .before .before .before .before .before .before .before .before .before) u w m in
     let run-of = c .before .before .before .before .before .before .before .before .before .before .before .run-of in
-    finished-held D (run-of .result) (run-of .ensures) (c .before .before .before .before .before .before .before .before .before .before .before .before .before .before .before .before .before .before .before .before .before .before .pre .0) (c .before .before .before .before .before .before .before .put-line2 .ensures)
+    finished-held (c .before .before .before .before .before .before .before .before .before .before .before .before .before .before .before .before .before .before .before .before .before .before .args .device) D (run-of .result) (run-of .ensures) (c .before .before .before .before .before .before .before .before .before .before .before .before .before .before .before .before .before .before .before .before .before .before .pre .0) (c .before .before .before .before .before .before .before .put-line2 .ensures)
     (c .before .before .put-tree-code .ensures (D .to .result) (gathered-list (D .to)))
 
 pub put-held-spec : {M : Type 1} → statement M
 put-held-spec =
     tie.close
     (tie.spec
-    cast-t13
+    cast-t14
     slice-aggregate-gather
     gather-requires
     enum-known-verdict

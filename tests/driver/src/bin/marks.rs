@@ -1,11 +1,9 @@
 //! Tries a mark program on fixed and random pairs of files and checks every line.
 //!
-//! marks KEY_PROGRAM MARK_PROGRAM VECTORS BEFORE_BOTH BEFORE_TABLES TARGET [PAIRS [SEED]]
+//! marks KEY_PROGRAM MARK_PROGRAM VECTORS TARGET [PAIRS [SEED]]
 //!   KEY_PROGRAM   the key program, whose gathered trees must be marked right; `--self` stands for the reference's own
 //!   MARK_PROGRAM  the mark program, or `--self`
 //!   VECTORS       a folder of NAME.question and NAME.candidate with NAME.mark
-//!   BEFORE_BOTH   another, of pairs from before request 6
-//!   BEFORE_TABLES another, of pairs from before request 7
 //!   TARGET        a folder for the files that the program is given, and to which failing pairs are saved
 
 use driver::marks::{cases, kinds, limits, trials};
@@ -55,17 +53,13 @@ fn least_counts(pairs: usize) -> Vec<(String, usize)> {
 }
 
 fn run(arguments: &[String]) -> Result<bool, String> {
-    let [key_program, mark_program, vectors, before_both, before_tables, target, rest @ ..] = arguments else {
-        let usage = "marks KEY_PROGRAM MARK_PROGRAM VECTORS BEFORE_BOTH BEFORE_TABLES TARGET [PAIRS [SEED]]";
-        return Err(format!("usage: {usage}"));
+    let [key_program, mark_program, vectors, target, rest @ ..] = arguments else {
+        return Err("usage: marks KEY_PROGRAM MARK_PROGRAM VECTORS TARGET [PAIRS [SEED]]".to_string());
     };
     let number = |at: usize, default: u64| rest.get(at).map_or(Ok(default), |text| text.parse::<u64>());
     let random_pairs = number(0, PAIRS as u64).map_err(|error| error.to_string())? as usize;
     let seed = number(1, SEED).map_err(|error| error.to_string())?;
-    let folder = |folder: &String| vectors::pairs(folder.as_ref()).map_err(|error| format!("{folder}: {error}"));
-    let mut cases = folder(vectors)?;
-    cases.extend(folder(before_both)?);
-    cases.extend(folder(before_tables)?);
+    let mut cases = vectors::pairs(vectors.as_ref()).map_err(|error| format!("{vectors}: {error}"))?;
     cases.extend(cases::cases());
     cases.extend(limits::limits());
     let subject = trials::Subject {

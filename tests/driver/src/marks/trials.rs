@@ -3,6 +3,7 @@
 use super::kinds::random_pair;
 use super::pair::{File, Pair};
 use crate::workers::{share_out, Worker, WORKERS};
+use reference::device::Device;
 use reference::key::Key;
 use reference::key_check::decode;
 use reference::mark_check::{printed_mark, same_line, Trait};
@@ -47,8 +48,8 @@ impl Subject<'_> {
     /// What the key program returns for a question, typed by a candidate.
     fn tree_of_key(&self, question: &[u8], worker: &Worker) -> Result<Vec<u8>, String> {
         let printed = worker.watched.run(&mut Command::new(self.key_program), question)?;
-        let key = Key::parse(&printed).ok_or("the question's key is none")?;
-        let tree = decode(&key.code).ok_or("the key's instructions do not compute a tree")?;
+        let key = Key::parse(Device::Newer, &printed).ok_or("the question's key is none")?;
+        let tree = decode(key.device, &key.code).ok_or("the key's instructions do not compute a tree")?;
         Ok(print_tree(&tree))
     }
 

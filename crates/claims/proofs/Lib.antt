@@ -1,0 +1,2 @@
+pub mod Theorems
+pub mod Request8Laws

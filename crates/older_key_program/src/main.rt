@@ -1,0 +1,4 @@
+// The same for the older player.
+fn main() {
+    print_key::print_key(printing::Device::Older);
+}
