@@ -167,8 +167,8 @@ fn number_of(played: Played) -> u16
 // The number.
 #[no_mangle]
 pub extern "C" fn play_call(code: &[u16], patch: &[u16], lamps: &mut [u8]) -> u16
-    ensures { λ r. ⌜ PlayCall (newer-player.playFault (now (code .entry)) (now (patch .entry)) (now (lamps .entry))) (newer.litLamps (rig (now (patch .entry))) (newer.instructions (now (code .entry))))
-        (now (lamps .entry)) (now (lamps .exit)) r ⌝ }
+    ensures { λ r. ⌜ PlayCall (newer-player.playFault (now (code .entry)) (now (patch .entry)) (now (lamps .entry)))
+        (newer.litLamps (rig (now (patch .entry))) (newer.instructions (now (code .entry)))) (now (lamps .entry)) (now (lamps .exit)) r ⌝ }
 {
     let played = player::play(code, patch, lamps);
     number_of(played)
@@ -177,8 +177,8 @@ pub extern "C" fn play_call(code: &[u16], patch: &[u16], lamps: &mut [u8]) -> u1
 // The same of the older player.
 #[no_mangle]
 pub extern "C" fn older_play_call(code: &[u16], patch: &[u16], lamps: &mut [u8]) -> u16
-    ensures { λ r. ⌜ PlayCall (older-player.playFault (now (code .entry)) (now (patch .entry)) (now (lamps .entry))) (older.litLamps (rig (now (patch .entry))) (older.instructions (now (code .entry))))
-        (now (lamps .entry)) (now (lamps .exit)) r ⌝ }
+    ensures { λ r. ⌜ PlayCall (older-player.playFault (now (code .entry)) (now (patch .entry)) (now (lamps .entry)))
+        (older.litLamps (rig (now (patch .entry))) (older.instructions (now (code .entry)))) (now (lamps .entry)) (now (lamps .exit)) r ⌝ }
 {
     let played = older_player::play(code, patch, lamps);
     number_of(played)
