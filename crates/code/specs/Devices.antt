@@ -1,7 +1,7 @@
 -- The code of a tree for a device, and the two devices.
 use mathlib.Core.Bool.{Bool, true, cond}
 use mathlib.Core.List.{List, [], _∷_, _++_}
-use Prim.Native.Nat.{ℕ, _+_}
+use Prim.Native.Nat.{ℕ}
 use Rattle.tree.specs.Tree.{Operator, Tree}
 use Rattle.player.specs.Instructions as newer
 use Rattle.older_player.specs.Instructions as older
