@@ -24,8 +24,8 @@ use Rattle.lift_lines.specs.Lifting.{treeAfter, liftAnswers}
 use Rattle.key.specs.Demand.{HeldCode, HolderRun, Lights, Demand3}
 use Rattle.key.specs.Inner.{Ends}
 use Rattle.printing.specs.declared.Device.{Device}
-use Rattle.key.specs.Devices.{InstructionOf, codingOf, effectOf, codeFor, IsOwn}
-use Rattle.key.proofs.DeviceLaws.{lawful}
+use Rattle.key.specs.Devices.{InstructionOf, effectOf, codeFor, IsOwn}
+use Rattle.key.proofs.DeviceLaws.{codingOf, lawful}
 use Rattle.lift_lines.proofs.LiftingLaws.{after-keeps}
 
 differ : {X : Type 0} → _≡_ {A = ℕ} 0 1 → X

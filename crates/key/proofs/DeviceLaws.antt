@@ -16,6 +16,7 @@ use Rattle.player.specs.declared.Played.{Played}
 use Rattle.player.specs.declared.Played.the-variants.{Done}
 use Rattle.player.proofs.InstructionLaws as newer-laws
 use Rattle.older_player.proofs.InstructionLaws as older-laws
+use Rattle.code.specs.Devices as coding
 use Rattle.code.specs.Devices.{partCode, codeOn, olderPlayer}
 use Rattle.code.specs.Acts.{Acts}
 use Rattle.code.proofs.CodeLaws.{length-part}
@@ -29,8 +30,13 @@ use Rattle.printing.specs.Inner.{codeRows}
 use Rattle.printing.specs.declared.Device.{Device}
 use Rattle.printing.specs.declared.Device.the-variants.{Newer, Older}
 use Rattle.printing.proofs.PrintingLaws.{newer-rows, older-rows, code-most, older-code-most}
-use Rattle.key.specs.Devices.{InstructionOf, codingOf, effectOf, codeFor, IsOwn, rowFor, numbersFor, PlaysFor}
+use Rattle.key.specs.Devices.{InstructionOf, effectOf, codeFor, IsOwn, rowFor, numbersFor, PlaysFor}
 use Rattle.key.specs.Inner.{codeBytes}
+
+-- how it is coded for
+abbrev pub codingOf : (d : Device) → coding.Device (InstructionOf d)
+codingOf Newer = coding.newerPlayer
+codingOf Older = coding.olderPlayer
 
 pub record Lawful (d : Device) : Type 0 where
   pub acts : Acts (codingOf d) (effectOf d)

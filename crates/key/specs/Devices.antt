@@ -22,11 +22,7 @@ abbrev pub InstructionOf : Device → Type 0
 InstructionOf Newer = newer.Instruction
 InstructionOf Older = older.Instruction
 
--- how it is coded for, and what an instruction reads, writes and loads
-abbrev pub codingOf : (d : Device) → coding.Device (InstructionOf d)
-codingOf Newer = coding.newerPlayer
-codingOf Older = coding.olderPlayer
-
+-- what an instruction reads, writes and loads
 abbrev pub effectOf : (d : Device) → InstructionOf d → Effect
 effectOf Newer i = newerEffect i
 effectOf Older i = olderEffect i

@@ -5,11 +5,11 @@ use mathlib.Core.Bool.{Bool, true, false, cond, _||_, not, true≢false}
 use mathlib.Core.List.{List}
 use Prim.Native.Nat.{ℕ, _*_, _%_, _≤_, _<_}
 use lib.Dec.{eqb, leb, ltb}
+use lib.ListN.{length}
 use borrow.Author.Tests.{eq-eqb, ne-eqb, leb-false, ltb-false}
 use Rattle.player.specs.Limits.{registerCount, lastGroup, lastLamp, mostPairs, outside}
 use Rattle.player.specs.Instructions.{add, both, loadKind, kindOf}
-use Rattle.player.specs.Playing.{wrongPairCount, wrongPair}
-use Rattle.player.specs.InnerWords.{Executable}
+use Rattle.player.specs.Playing.{wrongInstruction, wrongPairCount, wrongPair}
 
 pub or-left : (x y : Bool) → (x || y) ≡ false → x ≡ false
 or-left true y h = h
@@ -18,6 +18,11 @@ or-left false y h = refl
 pub or-right : (x y : Bool) → (x || y) ≡ false → y ≡ false
 or-right true y h = absurd (true≢false h)
 or-right false y h = h
+
+-- An instruction can be carried out: it has no fault 23, and there is an entry for each register.
+pub record Executable (kind target s t : ℕ) (registers : List (List ℕ)) : Type 0 where
+  pub right : wrongInstruction kind target s t ≡ false
+  pub all-registers : length registers ≡ registerCount
 
 module _ {kind target s t : ℕ} {registers : List (List ℕ)} (executable : Executable kind target s t registers) where
   pub right-target : target < registerCount

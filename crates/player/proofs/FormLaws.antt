@@ -9,10 +9,9 @@ use lib.Dec.{eqb}
 use lib.ListN.{getD}
 use Rattle.player.specs.Limits.{registerCount, lastGroup}
 use Rattle.player.specs.Instructions.{Rig, Registers, combined, put, step, loadKind, operationWith}
-use Rattle.player.specs.InnerWords.{Executable}
 use Rattle.player.specs.InnerForms.{leftIn, rightIn, instructionAt, CanStep}
 use Rattle.player.proofs.HoldingLaws.{step-load, step-combined}
-use Rattle.player.proofs.FaultLaws.{right-target, right-group, right-s, right-t}
+use Rattle.player.proofs.FaultLaws.{Executable, right-target, right-group, right-s, right-t}
 
 -- of a LOAD the numbers stay where they are
 load-stays : (kind shift x y : ℕ) → kind ≡ loadKind → cond (eqb shift 0 || eqb kind loadKind) x y ≡ x

@@ -1,14 +1,11 @@
--- How the code holds sets of lamps, 64 lamps to a word, and what it takes to carry out an instruction. Only contracts of private
--- functions cite it.
+-- How the code holds sets of lamps, 64 lamps to a word. Only contracts of inner functions cite it.
 use mathlib.Core.Path.{_≡_}
-use mathlib.Core.Bool.{false}
 use mathlib.Core.List.{List, []}
 use Prim.Native.Nat.{ℕ, _+_, _*_, _≤_, _<_}
 use lib.ListN.{length, getD}
 use Rattle.player.specs.Limits.{registerCount, lastGroup, mostPairs}
 use Rattle.player.specs.Instructions.{Lamps, Rig, Registers, empty}
 use Rattle.player.specs.Bytes.{pack}
-use Rattle.player.specs.Playing.{wrongInstruction}
 
 -- The lamps of a word.
 abbrev pub wordWidth : ℕ
@@ -56,8 +53,3 @@ pub record Placed (G : Rig) (index : List ℕ) (sets : List (List ℕ)) (given :
   pub owned : (g : ℕ) → g ≤ lastGroup → (getD index g 0 ≡ 0 → ⊥) → owner (getD index g 0) ≡ g
   pub nobody : HoldsSet (getD sets 0 []) (empty 0)
   pub free : (p : ℕ) → given < p → p < placeCount → HoldsSet (getD sets p []) (empty 0)
-
--- An instruction can be carried out: it has no fault 23, and there is an entry for each register.
-pub record Executable (kind target s t : ℕ) (registers : List (List ℕ)) : Type 0 where
-  pub right : wrongInstruction kind target s t ≡ false
-  pub all-registers : length registers ≡ registerCount
