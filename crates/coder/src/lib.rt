@@ -41,7 +41,8 @@ struct Below {
     before: usize,
 }
 
-// Writes the code of the node at `end` from index `at` on, and returns the index after it.
+// Writes the code of the node at `end` from index `at` on, and returns the index after it. A leaf that comes second, as most do, takes no
+// call of its own.
 fn write_node(
     tree: &[u16],
     starts: &[u16; tree::MOST_NODES],
@@ -61,7 +62,13 @@ fn write_node(
     let c = notes::children_of(starts, needs, end);
     let other = target + 1;
     let next = write_node(tree, starts, needs, c.first, target, out, at);
-    let last = write_node(tree, starts, needs, c.second, other, out, next);
+    let second = c.second;
+    let y = tree[second];
+    let last = if y < tree::UNION {
+        notes::put(out, next, player::LOAD, other, y, 0)
+    } else {
+        write_node(tree, starts, needs, second, other, out, next)
+    };
     let a = notes::pick(c.left, target, other);
     let b = notes::pick(c.left, other, target);
     notes::put(out, last, notes::kind_of(x), target, a, b)

@@ -3,10 +3,13 @@
 // Where no operand waits is a number: bit r is 1 if none waits in register r.
 ghost use mathlib.Core.Path.{_≡_};
 ghost use mathlib.Core.Bool.{false};
-ghost use Prim.Native.Nat.{_≤_, _<_};
-ghost use lib.ListN.{getD};
+ghost use mathlib.Core.List.{[], _∷_};
+ghost use Prim.Native.Nat.{_+_, _≤_, _<_};
+ghost use lib.ListN.{length, getD};
 ghost use Rattle.tree.specs.Tree.{Tree, mostNodes};
+ghost use Rattle.tree.specs.InnerWriting.{Wrote};
 ghost use Rattle.player.specs.Limits.{registerCount};
+ghost use Rattle.player.specs.Instructions.{loadKind};
 ghost use Rattle.code.specs.Waiting.{lowest, alsoIn};
 ghost use Rattle.notes.specs.InnerNotes.{NodeAt};
 ghost use Rattle.older_coder.specs.Coding.{Encodes};
@@ -42,8 +45,18 @@ fn behind(starts: &[u16; tree::MOST_NODES], end: usize, at: usize) -> usize
     at + 4 * (end + 1 - (starts[end] as usize))
 }
 
+// Writes the code of a leaf from index `at` on, while no operand waits where `free` says, and returns its register.
+fn write_leaf(group: u16, free: u32, out: &mut [u16], at: usize) -> u16
+    requires { ⌜ (lowest (waitingIn free) < registerCount) × (at + 4 ≤ length (now out)) ⌝ }
+    ensures { λ r. ⌜ (r ≡ lowest (waitingIn free)) × Wrote (now (out .entry)) at (now (out .exit)) (at + 4) (loadKind ∷ r ∷ group ∷ 0 ∷ []) ⌝ }
+{
+    let register = lowest(free);
+    notes::put(out, at, player::LOAD, register, group, 0);
+    register
+}
+
 // Writes the code of the node at `end` from index `at` on, while no operand waits where `free` says, and returns the register where its
-// result waits.
+// result waits. A leaf that comes second, as most do, takes no call of its own.
 fn write_node(
     tree: &[u16],
     starts: &[u16; tree::MOST_NODES],
@@ -58,15 +71,20 @@ fn write_node(
 {
     let x = tree[end];
     if x < tree::UNION {
-        let register = lowest(free);
-        notes::put(out, at, player::LOAD, register, x, 0);
-        return register;
+        return write_leaf(x, free, out, at);
     }
     let c = notes::children_of(starts, needs, end);
     let one = write_node(tree, starts, needs, c.first, free, out, at);
     let next = behind(starts, c.first, at);
-    let two = write_node(tree, starts, needs, c.second, also_in(free, one), out, next);
-    let last = behind(starts, c.second, next);
+    let rest = also_in(free, one);
+    let second = c.second;
+    let y = tree[second];
+    let two = if y < tree::UNION {
+        write_leaf(y, rest, out, next)
+    } else {
+        write_node(tree, starts, needs, second, rest, out, next)
+    };
+    let last = behind(starts, second, next);
     let left = notes::pick(c.left, one, two);
     let right = notes::pick(c.left, two, one);
     notes::put(out, last, notes::kind_of(x), left, right, 0);

@@ -12,7 +12,7 @@ use Rattle.common.specs.Exactly.{Exactly}
 use Rattle.common.specs.Fours.{fours}
 use Rattle.player.specs.Limits.{registerCount, lastGroup, outside}
 use Rattle.player.specs.Instructions.{Rig, Registers, empty, run, add, cut, both, loadKind, kindOf, operationWith}
-use Rattle.player.specs.InnerForms.{wrongIn, instructionIn, NoneWrong}
+use Rattle.player.specs.InnerForms.{wrongIn, instructionIn, NoneWrong, CanRun, shownBy}
 use Rattle.player.proofs.FaultLaws.{or-left, or-right}
 use Rattle.player.specs.Playing.{wrongLength}
 use Rattle.player.proofs.PlayingLaws.{length-fits}
@@ -110,7 +110,7 @@ right-exactly code some four = record {
   always = λ C. rw (C .numbered) (numbers-no-23 (C .register) (C .low) (C .others) (C .well-formed));
 }
 
--- ---- carried out by the loop of 01's player
+-- ---- carried out as by 01's player
 -- the instructions before SHOW can be
 others-right : (is : List Instruction) → AllWellFormed is → NoneWrong (fours (wrongIn 1) (numbersOf is))
 unfolding AllWellFormed numbersOf fours NoneWrong
@@ -138,9 +138,8 @@ module _ (code : List ℕ) (C : IsCode code) where
   before-show = omega (arith, ap (length {A = ℕ}) whole, length-append (numbersOf (C .others)) (showKind ∷ C .register ∷ 0 ∷ 0 ∷ []))
 
   pub record Carried (before : List ℕ) (shown : ℕ) : Type 0 where
-    pub right : NoneWrong (fours (wrongIn 1) before)
-    pub low : shown < registerCount
-    pub lit : (G : Rig) → run G (fours (instructionIn 1) before) empty shown ≡ litLamps G (instructions code)
+    pub can : CanRun 1 before shown
+    pub lit : (G : Rig) → shownBy 1 before shown G ≡ litLamps G (instructions code)
 
   pub carried : Carried (take (length code - 4) code) (getD code (length code - 4 + 1) 0)
   carried =
@@ -150,8 +149,7 @@ module _ (code : List ℕ) (C : IsCode code) where
       ap (λ (l : List ℕ). getD l (length code - 4 + 1) 0) (whole ∙ sym (append-assoc others (showKind ∷ []) (C .register ∷ 0 ∷ 0 ∷ [])))
       ∙ getD-at (others ++ (showKind ∷ [])) (C .register) (0 ∷ 0 ∷ []) 0 (length code - 4 + 1) (length-append others (showKind ∷ []) ∙ omega (arith, before-show)) in
       rw (front, shown) (record {
-        right = others-right (C .others) (C .well-formed);
-        low = C .low;
+        can = record { low = omega arith; high = omega arith; right = others-right (C .others) (C .well-formed); inside = C .low };
         lit = λ G. others-run G (C .others) (C .register) (C .well-formed) empty ∙ ap (litLamps G) (sym (ap (fours instruction) (C .numbered) ∙ instructions-numbers (C .others ++ (show (C .register) ∷ []))));
       })
 

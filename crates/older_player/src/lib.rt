@@ -1,35 +1,12 @@
-// The older player: from its instructions and a patch to the lamps that are lit. The instructions before SHOW are carried out by the loop of
-// 01's player, with the first register as target and left operand.
+// The older player: from its instructions and a patch to the lamps that are lit. The instructions before SHOW are carried out as 01's player
+// does it, with the first register as target and left operand.
 ghost use mathlib.Core.Path.{_≡_};
-ghost use mathlib.Core.Bool.{false};
-ghost use lib.ListN.{length};
-ghost use Rattle.player.specs.Patches.{rig};
-ghost use Rattle.player.specs.Playing.{wrongLength, wrongPairCount, wrongPatch};
-ghost use Rattle.player.specs.InnerWords.{HoldsSet};
-ghost use Rattle.older_player.specs.Instructions.{litLamps, instructions};
-ghost use Rattle.older_player.specs.Playing.{mostInstructions, wrongInstruction, misplaced, wrongCode, playFault, Plays};
+ghost use Rattle.older_player.specs.Playing.{wrongInstruction, misplaced, wrongCode, playFault, Plays};
 
 // Request 8's limit of instructions, and its kind beside 01's: "SHOW, kind 5".
 const INSTRUCTIONS: usize = 8192;
 
 pub const SHOW: u16 = 5;
-
-// The answer: what the register that SHOW names holds after all the instructions before it.
-fn answer(code: &[u16], patch: &[u16]) -> [u64; player::WORDS]
-    requires { ⌜ (wrongLength mostInstructions (length (now code)) ≡ false) × (wrongCode (now code) ≡ false)
-        × (wrongPairCount (length (now patch)) ≡ false) × (wrongPatch (now patch) ≡ false) ⌝ }
-    ensures { λ r. ⌜ HoldsSet r (litLamps (rig (now (patch .entry))) (instructions (now (code .entry)))) ⌝ }
-{
-    let mut index = [0u16; player::GROUPS + 1];
-    let mut sets = [[0u64; player::WORDS]; player::PLACES];
-    player::load_groups(patch, &mut index, &mut sets);
-    let mut registers = [[0u64; player::WORDS]; player::REGISTERS];
-    let last = code.len() - 4;
-    let show = player::numbers_at(code, last);
-    player::execute(&mut registers, &code[..last], 1, &index, &sets);
-    let shown = show.target;
-    registers[shown]
-}
 
 // Fault 23 of one instruction, wherever it stands.
 fn wrong_instruction(i: player::Numbers) -> bool
@@ -87,8 +64,8 @@ fn fault(code: &[u16], patch: &[u16], lamps: &[u8]) -> u16
     player::patch_fault(patch)
 }
 
-// Runs the code with what the patch gives the groups, and writes the lamps that are lit into the first 64 bytes of `lamps`;
-// or refuses and writes nothing.
+// Runs the code with what the patch gives the groups, and writes the lamps of the register that SHOW names into the first 64 bytes of
+// `lamps`; or refuses and writes nothing.
 pub fn play(code: &[u16], patch: &[u16], lamps: &mut [u8]) -> player::Played
     ensures { λ r. ⌜ Plays (now (code .entry)) (now (patch .entry)) (now (lamps .entry)) r (now (lamps .exit)) ⌝ }
 {
@@ -96,7 +73,8 @@ pub fn play(code: &[u16], patch: &[u16], lamps: &mut [u8]) -> player::Played
     if number != 0 {
         return player::Played::Refused(number);
     }
-    let words = answer(code, patch);
-    player::write_bytes(words, lamps);
+    let last = code.len() - 4;
+    let shown = code[last + 1] as usize;
+    player::write_lamps(&code[..last], 1, shown, patch, lamps);
     player::Played::Done
 }

@@ -28,7 +28,7 @@ module _ (l : List ℕ) (i k : ℕ) (e : i + 4 ≡ k) (h : k ≤ length l) where
   code-miss s = code-more ∙ rw s
 
 -- code without fault 23: each of its instructions
-pub code-right : (l : List ℕ) → wrongCode l ≡ false → NoneWrong (fours (wrongIn 0) l)
+pub code-right : (l : List ℕ) → wrongCode l ≡ false → NoneWrong (fours (wrongIn 2) l)
 unfolding wrongCode fours NoneWrong
 code-right [] h = tt
 code-right (a ∷ []) h = tt
@@ -37,15 +37,15 @@ code-right (a ∷ b ∷ c ∷ []) h = tt
 code-right (a ∷ b ∷ c ∷ d ∷ l) h = (or-left _ _ h, code-right l (or-right (wrongInstruction a b c d) _ h))
 
 -- ---- carried out four numbers at a time
-module _ (shift : ℕ) (l : List ℕ) (i k : ℕ) (e : i + 4 ≡ k) (h : k ≤ length l) where
-  pub none-more : NoneWrong (fours (wrongIn shift) (drop i l)) → (wrongIn shift (getD l i 0) (getD l (i + 1) 0) (getD l (i + 2) 0) (getD l (i + 3) 0) ≡ false) × NoneWrong (fours (wrongIn shift) (drop k l))
+module _ (left : ℕ) (l : List ℕ) (i k : ℕ) (e : i + 4 ≡ k) (h : k ≤ length l) where
+  pub none-more : NoneWrong (fours (wrongIn left) (drop i l)) → (wrongIn left (getD l i 0) (getD l (i + 1) 0) (getD l (i + 2) 0) (getD l (i + 3) 0) ≡ false) × NoneWrong (fours (wrongIn left) (drop k l))
   unfolding NoneWrong
-  none-more n = rw (fours-more (wrongIn shift) l i k e h) at n
+  none-more n = rw (fours-more (wrongIn left) l i k e h) at n
 
   pub run-more : (G : Rig) (R : Registers)
-      → run G (fours (instructionIn shift) (drop i l)) R ≡ run G (fours (instructionIn shift) (drop k l)) (step G (instructionIn shift (getD l i 0) (getD l (i + 1) 0) (getD l (i + 2) 0) (getD l (i + 3) 0)) R)
+      → run G (fours (instructionIn left) (drop i l)) R ≡ run G (fours (instructionIn left) (drop k l)) (step G (instructionIn left (getD l i 0) (getD l (i + 1) 0) (getD l (i + 2) 0) (getD l (i + 3) 0)) R)
   unfolding run
-  run-more G R = rw (fours-more (instructionIn shift) l i k e h)
+  run-more G R = rw (fours-more (instructionIn left) l i k e h)
 
 pub code-end : (l : List ℕ) → length l < 4 → wrongCode l ≡ false
 unfolding wrongCode
@@ -55,9 +55,9 @@ code-end (a ∷ b ∷ []) h = refl
 code-end (a ∷ b ∷ c ∷ []) h = refl
 code-end (a ∷ b ∷ c ∷ d ∷ l) h = absurd (omega arith)
 
-pub run-end : (shift : ℕ) (l : List ℕ) (G : Rig) (R : Registers) → length l < 4 → run G (fours (instructionIn shift) l) R ≡ R
+pub run-end : (left : ℕ) (l : List ℕ) (G : Rig) (R : Registers) → length l < 4 → run G (fours (instructionIn left) l) R ≡ R
 unfolding run
-run-end shift l G R h = rw (fours-end (instructionIn shift) l h)
+run-end left l G R h = rw (fours-end (instructionIn left) l h)
 
 -- ---- pairs
 pair-put : (S : Rig) (g n group lamp : ℕ) → put S g (combined add (eqb n) (S g)) group lamp ≡ ((eqb g group && eqb n lamp) || S group lamp)

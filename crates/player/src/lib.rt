@@ -8,14 +8,13 @@ ghost use mathlib.Core.List.{List, _++_};
 ghost use Prim.Native.Nat.{ℕ, _+_, _≤_, _<_};
 ghost use lib.Dec.{eqb};
 ghost use lib.ListN.{length, getD, drop};
-ghost use Rattle.common.specs.Fours.{fours};
 ghost use Rattle.player.specs.Limits.{registerCount, lastGroup, lastLamp, mostPairs, byteCount, outside};
-ghost use Rattle.player.specs.Instructions.{Lamps, Rig, Registers, add, combined, empty, step, run, litLamps, operationWith, instructions};
+ghost use Rattle.player.specs.Instructions.{Lamps, Rig, Registers, add, combined, empty, step, operationWith};
 ghost use Rattle.player.specs.Patches.{rig};
 ghost use Rattle.player.specs.Bytes.{bytes};
 ghost use Rattle.player.specs.Playing.{wrongLength, wrongInstruction, wrongCode, wrongPairCount, wrongPair, wrongPatch, patchFault, playFault, Plays};
 ghost use Rattle.player.specs.InnerWords.{word, HoldsSet, HoldsSets, Indexed, HoldsGroups, Placed};
-ghost use Rattle.player.specs.InnerForms.{wrongIn, instructionIn, instructionAt, NoneWrong, CanStep};
+ghost use Rattle.player.specs.InnerForms.{instructionAt, CanStep, CanRun, shownBy};
 
 // 01's limits: the registers, the last group (02's, request 4) and the last lamp, the bytes written, the instructions and the pairs.
 pub const REGISTERS: usize = 13;
@@ -43,10 +42,10 @@ pub const BOTH: u16 = 4;
 // The lamps of a word, and the words of a set.
 const WIDTH: usize = 64;
 
-pub const WORDS: usize = LAMPS / WIDTH;
+const WORDS: usize = LAMPS / WIDTH;
 
 // The places for sets: place 0, where the set is empty, for the groups that no pair names, and one for each pair.
-pub const PLACES: usize = PAIRS + 1;
+const PLACES: usize = PAIRS + 1;
 
 // The answer of `play`: done, or refused with the number of the first fault.
 pub enum Played {
@@ -135,7 +134,7 @@ fn give_place(index: &mut [u16; GROUPS + 1], given: usize, group: usize) -> usiz
 }
 
 // What the patch gives each group: the places of the groups that it names, and the sets at these places.
-pub fn load_groups(patch: &[u16], index: &mut [u16; GROUPS + 1], sets: &mut [[u64; WORDS]; PLACES])
+fn load_groups(patch: &[u16], index: &mut [u16; GROUPS + 1], sets: &mut [[u64; WORDS]; PLACES])
     requires { ⌜ (wrongPairCount (length (now patch)) ≡ false) × (wrongPatch (now patch) ≡ false) × Placed empty (now index) (now sets) 0 ⌝ }
     ensures { λ _. ⌜ Indexed (now (index .exit)) (now (sets .exit)) × HoldsGroups (now (index .exit)) (now (sets .exit)) (rig (now (patch .entry))) ⌝ }
 {
@@ -151,20 +150,20 @@ pub fn load_groups(patch: &[u16], index: &mut [u16; GROUPS + 1], sets: &mut [[u6
     }
 }
 
-// Carries out the instruction at `at`. Where its operations name two registers, and not three, `shift` is 1: the first is the target and
-// the left operand, and the second, which stands one number earlier, the right one.
+// Carries out the instruction at `at`. `left` is the place of an operation's left operand among its numbers: behind the target, 2, or,
+// where operations name two registers, the target's own, 1. The right one follows.
 fn step(
     registers: &mut [[u64; WORDS]; REGISTERS],
     code: &[u16],
     at: usize,
-    shift: usize,
+    left: usize,
     index: &[u16; GROUPS + 1],
     sets: &[[u64; WORDS]; PLACES],
 )
-    requires { ⌜ CanStep shift (now code) at (now registers) × Indexed (now index) (now sets) ⌝ }
+    requires { ⌜ CanStep left (now code) at (now registers) × Indexed (now index) (now sets) ⌝ }
     ensures { λ _. ⌜ (length (now (registers .exit)) ≡ registerCount)
         × ((G : Rig) (R : Registers) → HoldsGroups (now (index .entry)) (now (sets .entry)) G → HoldsSets (now (registers .entry)) R
-        → HoldsSets (now (registers .exit)) (step G (instructionAt shift (now (code .entry)) at) R)) ⌝ }
+        → HoldsSets (now (registers .exit)) (step G (instructionAt left (now (code .entry)) at) R)) ⌝ }
 {
     let kind = code[at];
     let target = number_at(code, at + 1);
@@ -172,47 +171,45 @@ fn step(
         let place = index[number_at(code, at + 2)] as usize;
         registers[target] = sets[place];
     } else {
-        let s = number_at(code, at + 2 - shift);
-        let t = number_at(code, at + 3 - shift);
+        let s = number_at(code, at + left);
+        let t = number_at(code, at + left + 1);
         registers[target] = combine(kind, registers[s], registers[t]);
     }
 }
 
-// Carries out all the instructions, whose operations name three registers (`shift` 0) or two (1), in empty registers.
-pub fn execute(
-    registers: &mut [[u64; WORDS]; REGISTERS],
+// Register `shown` after all the instructions.
+fn execute(
     code: &[u16],
-    shift: usize,
+    left: usize,
+    shown: usize,
     index: &[u16; GROUPS + 1],
     sets: &[[u64; WORDS]; PLACES],
-)
-    requires { ⌜ HoldsSets (now registers) empty × NoneWrong (fours (wrongIn shift) (now code)) × (shift ≤ 1) × Indexed (now index) (now sets) ⌝ }
-    ensures { λ _. ⌜ (length (now (registers .exit)) ≡ registerCount)
-        × ((G : Rig) → HoldsGroups (now (index .entry)) (now (sets .entry)) G
-        → HoldsSets (now (registers .exit)) (run G (fours (instructionIn shift) (now (code .entry))) empty)) ⌝ }
+) -> [u64; WORDS]
+    requires { ⌜ CanRun left (now code) shown × Indexed (now index) (now sets) ⌝ }
+    ensures { λ r. ⌜ ((G : Rig) → HoldsGroups (now (index .entry)) (now (sets .entry)) G → HoldsSet r (shownBy left (now (code .entry)) shown G)) ⌝ }
 {
+    let mut registers = [[0u64; WORDS]; REGISTERS];
     let mut at = 0;
     while 4 <= code.len() - at {
-        step(registers, code, at, shift, index, sets);
+        step(&mut registers, code, at, left, index, sets);
         at += 4;
     }
+    registers[shown]
 }
 
-// The answer, in register 0.
-fn answer(code: &[u16], patch: &[u16]) -> [u64; WORDS]
-    requires { ⌜ (wrongCode (now code) ≡ false) × (wrongPairCount (length (now patch)) ≡ false) × (wrongPatch (now patch) ≡ false) ⌝ }
-    ensures { λ r. ⌜ HoldsSet r (litLamps (rig (now (patch .entry))) (instructions (now (code .entry)))) ⌝ }
+// The same, with what the patch gives the groups.
+fn answer(code: &[u16], left: usize, shown: usize, patch: &[u16]) -> [u64; WORDS]
+    requires { ⌜ CanRun left (now code) shown × (wrongPairCount (length (now patch)) ≡ false) × (wrongPatch (now patch) ≡ false) ⌝ }
+    ensures { λ r. ⌜ HoldsSet r (shownBy left (now (code .entry)) shown (rig (now (patch .entry)))) ⌝ }
 {
     let mut index = [0u16; GROUPS + 1];
     let mut sets = [[0u64; WORDS]; PLACES];
     load_groups(patch, &mut index, &mut sets);
-    let mut registers = [[0u64; WORDS]; REGISTERS];
-    execute(&mut registers, code, 0, &index, &sets);
-    registers[0]
+    execute(code, left, shown, &index, &sets)
 }
 
 // Writes a set into the first 64 bytes, the last byte first.
-pub fn write_bytes(words: [u64; WORDS], lamps: &mut [u8])
+fn write_bytes(words: [u64; WORDS], lamps: &mut [u8])
     requires { ⌜ byteCount ≤ length (now lamps) ⌝ }
     ensures { λ _. ⌜ ((f : Lamps) → HoldsSet words f → now (lamps .exit) ≡ bytes f ++ drop byteCount (now (lamps .entry))) ⌝ }
 {
@@ -221,6 +218,16 @@ pub fn write_bytes(words: [u64; WORDS], lamps: &mut [u8])
         i -= 1;
         lamps[i] = ((words[i / 8] >> (8 * (i % 8))) % 256) as u8;
     }
+}
+
+// Carries out the instructions, and writes the lamps of register `shown` into the first 64 bytes.
+pub fn write_lamps(code: &[u16], left: usize, shown: usize, patch: &[u16], lamps: &mut [u8])
+    requires { ⌜ CanRun left (now code) shown × (wrongPairCount (length (now patch)) ≡ false) × (wrongPatch (now patch) ≡ false)
+        × (byteCount ≤ length (now lamps)) ⌝ }
+    ensures { λ _. ⌜ now (lamps .exit) ≡ bytes (shownBy left (now (code .entry)) shown (rig (now (patch .entry)))) ++ drop byteCount (now (lamps .entry)) ⌝ }
+{
+    let words = answer(code, left, shown, patch);
+    write_bytes(words, lamps);
 }
 
 // Is x not one of lo to hi?
@@ -329,7 +336,6 @@ pub fn play(code: &[u16], patch: &[u16], lamps: &mut [u8]) -> Played
     if number != 0 {
         return Played::Refused(number);
     }
-    let words = answer(code, patch);
-    write_bytes(words, lamps);
+    write_lamps(code, 2, 0, patch, lamps);
     Played::Done
 }

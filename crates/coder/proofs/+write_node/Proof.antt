@@ -1,10 +1,12 @@
 -- A leaf's four numbers are its code. For another node, `ready` gives what the calls for the children ask, and `writes-node` joins
 -- what they wrote with the operator's instruction. The measure is the node's entry: a child's is lower.
 use borrow.Author.Needs.{needs}
-use mathlib.Core.Path.{_∙_}
+use mathlib.Core.Path.{_≡_, _∙_}
+use mathlib.Core.Logic.{inl, inr}
 use native.Mathlib.Omega.{arith}
-use Rattle.coder.proofs.WriterLaws.{end-inside, leaf-room, inner-node, ready, writes-leaf, writes-node}
-use Prim.Native.Nat.{ℕ, _<_}
+use lib.ListN.{length}
+use Rattle.coder.proofs.WriterLaws.{end-inside, leaf-room, inner-node, ready, Writes, writes-leaf, writes-node}
+use Prim.Native.Nat.{ℕ, _+_, _<_}
 use borrow.Fn.Kinds.{In}
 use borrow.Fn.PlainCycle.{Measures, is, falls, and}
 use Rattle.coder.proofs.write_node.Reads as write-node
@@ -72,11 +74,40 @@ write-node-write-node-requires t c κs =
     let R = ready (pre .1) (c .before .before .if1 .left) (c .before .children-of .ensures) in
     (omega (arith, pre .0, R .less-one), R .first-call)
 
+write-node-mul-y : (t : ℕ) → write-node-lts.Need-mul-y (calls t) (write-node-at t) write-node.Post
+write-node-mul-y t c =
+    let W = c .before .before .before .before .before .before .before .before .before .pre .1 in
+    let R = ready W (c .before .before .before .before .before .if1 .left) (c .before .before .before .before .children-of .ensures) in
+    omega (arith, end-inside W, W .noted .few, R .less-two)
+
+write-node-shared-slice-read-y : (t : ℕ) → write-node-lts.Need-shared-slice-read-y (calls t) (write-node-at t) write-node.Post
+write-node-shared-slice-read-y t c =
+    let W = c .before .before .before .before .before .before .before .before .before .before .pre .1 in
+    omega (arith, end-inside W, ready W (c .before .before .before .before .before .before .if1 .left) (c .before .before .before .before .before .children-of .ensures) .less-two)
+
+write-node-put-requires-2 : (t : ℕ) → write-node-lts.Need-put-requires-2 (calls t) (write-node-at t) write-node.Post
+write-node-put-requires-2 t c κs =
+    leaf-room (ready (c .before .before .before .before .before .before .before .before .before .before .before .before .pre .1) (c .before .before .before .before .before .before .before .before .if1 .left) (c .before .before .before .before .before .before .before .children-of .ensures) .second-call _ _ (c .before .before .before .before .before .write-node .ensures))
+
 write-node-write-node-requires-2 : (t : ℕ) → write-node-lts.Need-write-node-requires-2 (calls t) (write-node-at t) write-node.Post
 write-node-write-node-requires-2 t c κs =
-    let pre = c .before .before .before .before .before .before .before .before .before .before .pre in
-    let R = ready (pre .1) (c .before .before .before .before .before .before .if1 .left) (c .before .before .before .before .before .children-of .ensures) in
-    (omega (arith, pre .0, R .less-two), R .second-call _ _ (c .before .before .before .write-node .ensures))
+    let pre = c .before .before .before .before .before .before .before .before .before .before .before .before .pre in
+    let R = ready (pre .1) (c .before .before .before .before .before .before .before .before .if1 .left) (c .before .before .before .before .before .before .before .children-of .ensures) in
+    (omega (arith, pre .0, R .less-two), R .second-call _ _ (c .before .before .before .before .before .write-node .ensures))
+
+-- the second child's code, whichever way it was written
+second-written : (t : ℕ) (c : write-node-lts.Joined2 (calls t) (write-node-at t) write-node.Post)
+    → Writes (c .before .before .before .before .before .before .before .before .before .before .before .args .tree .now) (c .before .before .before .before .before .before .children-of .result .second) (c .before .before .before .before .before .before .before .before .before .before .before .args .target + 1) (c .before .before .before .before .write-node .last .1 .1 .1 .1 .1 .0) (c .before .before .before .before .write-node .result) (c .if2 .out) (c .if2 .last)
+second-written t c = elim (c .if2 .came) [
+  | inl p ↦ rw (p .5, p .6) (writes-leaf _ _ _ (p .0 .taken) (p .2 .ensures))
+  | inr p ↦ rw (p .5, p .6) (p .2 .ensures)
+]
+
+second-length : (t : ℕ) (c : write-node-lts.Joined2 (calls t) (write-node-at t) write-node.Post) → length (c .if2 .out) ≡ length (c .before .before .before .before .write-node .last .1 .1 .1 .1 .1 .0)
+second-length t c = elim (c .if2 .came) [
+  | inl p ↦ rw (p .5) (p .2 .kept .0)
+  | inr p ↦ rw (p .5) (p .2 .kept .1 .1 .1 .1 .1 .0)
+]
 
 write-node-pick-requires : (t : ℕ) → write-node-lts.Need-pick-requires (calls t) (write-node-at t) write-node.Post
 write-node-pick-requires t c κs = search needs
@@ -87,25 +118,16 @@ write-node-pick-requires-2 t c κs = search needs
 write-node-kind-of-requires : (t : ℕ) → write-node-lts.Need-kind-of-requires (calls t) (write-node-at t) write-node.Post
 write-node-kind-of-requires t c κs = search needs
 
-write-node-put-requires-2 : (t : ℕ) → write-node-lts.Need-put-requires-2 (calls t) (write-node-at t) write-node.Post
-write-node-put-requires-2 t c κs =
-    let W = c .before .before .before .before .before .before .before .before .before .before .before .before .before .before .before .before .before .pre .1 in
-    ready W (c .before .before .before .before .before .before .before .before .before .before .before .before .before .if1 .left) (c .before .before .before .before .before .before .before .before .before .before .before .before .children-of .ensures) .own-room _ _ _ _ (c .before .before .before .before .before .before .before .before .before .before .write-node .ensures) (c .before .before .before .before .before .before .write-node2 .ensures)
+write-node-put-requires-3 : (t : ℕ) → write-node-lts.Need-put-requires-3 (calls t) (write-node-at t) write-node.Post
+write-node-put-requires-3 t c κs =
+    ready (c .before .before .before .before .before .before .before .before .before .before .before .before .before .before .before .pre .1) (c .before .before .before .before .before .before .before .before .before .before .before .if1 .left) (c .before .before .before .before .before .before .before .before .before .before .children-of .ensures) .own-room _ _ _ _ (c .before .before .before .before .before .before .before .before .write-node .ensures) (second-written t (c .before .before .before .before))
 
 write-node-same-length-2 : (t : ℕ) → write-node-lts.Need-same-length-2 (calls t) (write-node-at t) write-node.Post
-write-node-same-length-2 t c =
-    let write-first = c .before .before .before .before .before .before .before .before .before .before .before .before .before .write-node in
-    let write-second = c .before .before .before .before .before .before .before .before .before .write-node2 in
-    c .before .before .put2 .kept .0 ∙ write-second .kept .1 .1 .1 .1 .1 .0 ∙ write-first .kept .1 .1 .1 .1 .1 .0
+write-node-same-length-2 t c = c .before .before .put3 .kept .0 ∙ second-length t (c .before .before .before .before .before .before .before) ∙ c .before .before .before .before .before .before .before .before .before .before .before .write-node .kept .1 .1 .1 .1 .1 .0
 
 write-node-returns-2 : (t : ℕ) → write-node-lts.Need-returns-2 (calls t) (write-node-at t) write-node.Post
 write-node-returns-2 t c =
-    let W = c .before .before .before .before .before .before .before .before .before .before .before .before .before .before .before .before .before .before .before .before .pre .1 in
-    let if1 = c .before .before .before .before .before .before .before .before .before .before .before .before .before .before .before .before .if1 in
-    let children-of = c .before .before .before .before .before .before .before .before .before .before .before .before .before .before .before .children-of in
-    let write-first = c .before .before .before .before .before .before .before .before .before .before .before .before .before .write-node in
-    let write-second = c .before .before .before .before .before .before .before .before .before .write-node2 in
-    writes-node W (if1 .left) (children-of .ensures) (c .before .before .before .before .before .before .pick .ensures) (c .before .before .before .before .before .pick2 .ensures) (write-first .ensures) (write-second .ensures) (c .before .before .before .kind-of .ensures) (c .before .before .put2 .ensures)
+    writes-node (c .before .before .before .before .before .before .before .before .before .before .before .before .before .before .before .before .before .before .pre .1) (c .before .before .before .before .before .before .before .before .before .before .before .before .before .before .if1 .left) (c .before .before .before .before .before .before .before .before .before .before .before .before .before .children-of .ensures) (c .before .before .before .before .before .before .pick .ensures) (c .before .before .before .before .before .pick2 .ensures) (c .before .before .before .before .before .before .before .before .before .before .before .write-node .ensures) (second-written t (c .before .before .before .before .before .before .before)) (c .before .before .before .kind-of .ensures) (c .before .before .put3 .ensures)
 
 pub +write-node-spec : {M : Type 1} → statement M
 +write-node-spec = close μ-write-node λ t. write-node-lts.spec (calls t)
@@ -119,10 +141,13 @@ pub +write-node-spec : {M : Type 1} → statement M
     (write-node-children-of-requires t)
     (write-node-add-other t)
     (write-node-write-node-requires t)
+    (write-node-mul-y t)
+    (write-node-shared-slice-read-y t)
+    (write-node-put-requires-2 t)
     (write-node-write-node-requires-2 t)
     (write-node-pick-requires t)
     (write-node-pick-requires-2 t)
     (write-node-kind-of-requires t)
-    (write-node-put-requires-2 t)
+    (write-node-put-requires-3 t)
     (write-node-same-length-2 t)
     (write-node-returns-2 t)

@@ -1,10 +1,13 @@
 -- A leaf's four numbers are its code. For another node, `ready` gives what the calls for the children ask, and `writes-node` joins
 -- what they wrote with the operator's instruction. The measure is the node's entry: a child's is lower.
 use borrow.Author.Needs.{needs}
-use mathlib.Core.Path.{_∙_}
+use mathlib.Core.Path.{_≡_, _∙_}
+use mathlib.Core.Logic.{inl, inr}
 use native.Mathlib.Omega.{arith}
-use Rattle.older_coder.proofs.WriterLaws.{end-inside, leaf-room, lowest-inside, inner-node, ready, writes-leaf, writes-node}
+use lib.ListN.{length}
+use Rattle.older_coder.proofs.WriterLaws.{end-inside, leaf-room, lowest-inside, inner-node, ready, Writes, writes-leaf, writes-node}
 use Prim.Native.Nat.{ℕ, _<_}
+use Rattle.older_coder.specs.InnerWriter.{waitingIn}
 use borrow.Fn.Kinds.{In}
 use borrow.Fn.PlainCycle.{Measures, is, falls, and}
 use Rattle.older_coder.proofs.write_node.Reads as write-node
@@ -16,7 +19,7 @@ use Rattle.notes.proofs.pick.Reads as pick-reads
 use Rattle.notes.proofs.put.Reads as put-reads
 use Rattle.older_coder.proofs.also_in.Reads as also-in-reads
 use Rattle.older_coder.proofs.behind.Reads as behind-reads
-use Rattle.older_coder.proofs.lowest.Reads as lowest-reads
+use Rattle.older_coder.proofs.write_leaf.Reads as write-leaf-reads
 use Rattle.older_coder.proofs.+write_node.{statement}
 use Rattle.older_coder.proofs.+write_node.Tie.{close}
 
@@ -34,10 +37,8 @@ write-node-below t =
 -- what the callees ask and tell
 abbrev calls : ℕ → write-node-lts.Claims
 calls t = (
-  lowest-reads.Asked,
-  lowest-reads.Learnt,
-  put-reads.Asked,
-  put-reads.Learnt,
+  write-leaf-reads.Asked,
+  write-leaf-reads.Learnt,
   children-of-reads.Asked,
   children-of-reads.Learnt,
   write-node-below t,
@@ -50,6 +51,8 @@ calls t = (
   pick-reads.Learnt,
   kind-of-reads.Asked,
   kind-of-reads.Learnt,
+  put-reads.Asked,
+  put-reads.Learnt,
 )
 
 write-node-mul-x : (t : ℕ) → write-node-lts.Need-mul-x (calls t) (write-node-at t) write-node.Post
@@ -60,17 +63,14 @@ write-node-mul-x t c =
 write-node-shared-slice-read-x : (t : ℕ) → write-node-lts.Need-shared-slice-read-x (calls t) (write-node-at t) write-node.Post
 write-node-shared-slice-read-x t c = end-inside (c .before .before .before .pre .1)
 
-write-node-lowest-requires : (t : ℕ) → write-node-lts.Need-lowest-requires (calls t) (write-node-at t) write-node.Post
-write-node-lowest-requires t c κs = lowest-inside (c .before .before .before .before .pre .1)
-
-write-node-put-requires : (t : ℕ) → write-node-lts.Need-put-requires (calls t) (write-node-at t) write-node.Post
-write-node-put-requires t c κs = leaf-room (c .before .before .before .before .before .before .pre .1)
+write-node-write-leaf-requires : (t : ℕ) → write-node-lts.Need-write-leaf-requires (calls t) (write-node-at t) write-node.Post
+write-node-write-leaf-requires t c κs = let W = c .before .before .before .before .before .pre .1 in (lowest-inside W, leaf-room W)
 
 write-node-same-length : (t : ℕ) → write-node-lts.Need-same-length (calls t) (write-node-at t) write-node.Post
 write-node-same-length t c = search needs
 
 write-node-returns : (t : ℕ) → write-node-lts.Need-returns (calls t) (write-node-at t) write-node.Post
-write-node-returns t c = writes-leaf _ _ _ (c .before .before .before .before .before .if1 .taken) (c .before .before .before .before .lowest .ensures) (c .before .before .put .ensures)
+write-node-returns t c = writes-leaf _ _ _ (c .before .before .before .before .if1 .taken) (c .before .before .write-leaf .ensures .0) (c .before .before .write-leaf .ensures .1)
 
 write-node-children-of-requires : (t : ℕ) → write-node-lts.Need-children-of-requires (calls t) (write-node-at t) write-node.Post
 write-node-children-of-requires t c κs = inner-node (c .before .before .before .before .pre .1) (c .if1 .left)
@@ -89,16 +89,47 @@ write-node-behind-requires t c κs =
 write-node-also-in-requires : (t : ℕ) → write-node-lts.Need-also-in-requires (calls t) (write-node-at t) write-node.Post
 write-node-also-in-requires t c κs = ready (c .before .before .before .before .before .before .before .before .before .before .pre .1) (c .before .before .before .before .before .before .if1 .left) (c .before .before .before .before .before .children-of .ensures) .register _ _ (c .before .before .before .write-node .ensures)
 
+write-node-mul-y : (t : ℕ) → write-node-lts.Need-mul-y (calls t) (write-node-at t) write-node.Post
+write-node-mul-y t c =
+    let W = c .before .before .before .before .before .before .before .before .before .before .before .pre .1 in
+    let R = ready W (c .before .before .before .before .before .before .before .if1 .left) (c .before .before .before .before .before .before .children-of .ensures) in
+    omega (arith, end-inside W, W .noted .few, R .less-two)
+
+write-node-shared-slice-read-y : (t : ℕ) → write-node-lts.Need-shared-slice-read-y (calls t) (write-node-at t) write-node.Post
+write-node-shared-slice-read-y t c =
+    let W = c .before .before .before .before .before .before .before .before .before .before .before .before .pre .1 in
+    omega (arith, end-inside W, ready W (c .before .before .before .before .before .before .before .before .if1 .left) (c .before .before .before .before .before .before .before .children-of .ensures) .less-two)
+
+write-node-write-leaf-requires-2 : (t : ℕ) → write-node-lts.Need-write-leaf-requires-2 (calls t) (write-node-at t) write-node.Post
+write-node-write-leaf-requires-2 t c κs =
+    let R = ready (c .before .before .before .before .before .before .before .before .before .before .before .before .before .before .pre .1) (c .before .before .before .before .before .before .before .before .before .before .if1 .left) (c .before .before .before .before .before .before .before .before .before .children-of .ensures) in
+    let W = R .second-call _ _ _ (c .before .before .before .before .behind .ensures) (c .before .before .before .before .before .before .before .write-node .ensures) in
+    (rw (c .before .before .before .also-in .ensures) (lowest-inside W), leaf-room W)
+
 write-node-write-node-requires-2 : (t : ℕ) → write-node-lts.Need-write-node-requires-2 (calls t) (write-node-at t) write-node.Post
 write-node-write-node-requires-2 t c κs =
-    let pre = c .before .before .before .before .before .before .before .before .before .before .before .before .pre in
-    let R = ready (pre .1) (c .before .before .before .before .before .before .before .before .if1 .left) (c .before .before .before .before .before .before .before .children-of .ensures) in
-    (omega (arith, pre .0, R .less-two), rw (c .before .also-in .ensures) (R .second-call _ _ _ (c .before .before .behind .ensures) (c .before .before .before .before .before .write-node .ensures)))
+    let pre = c .before .before .before .before .before .before .before .before .before .before .before .before .before .before .pre in
+    let R = ready (pre .1) (c .before .before .before .before .before .before .before .before .before .before .if1 .left) (c .before .before .before .before .before .before .before .before .before .children-of .ensures) in
+    (omega (arith, pre .0, R .less-two), rw (c .before .before .before .also-in .ensures) (R .second-call _ _ _ (c .before .before .before .before .behind .ensures) (c .before .before .before .before .before .before .before .write-node .ensures)))
 
 write-node-behind-requires-2 : (t : ℕ) → write-node-lts.Need-behind-requires-2 (calls t) (write-node-at t) write-node.Post
 write-node-behind-requires-2 t c κs =
-    let B = ready (c .before .before .before .before .before .before .before .before .before .before .before .before .before .before .before .pre .1) (c .before .before .before .before .before .before .before .before .before .before .before .if1 .left) (c .before .before .before .before .before .before .before .before .before .before .children-of .ensures) .second-behind _ (c .before .before .before .before .before .behind .ensures) in
-    (B .high, B .low, omega (arith, B .inside, c .before .before .before .before .before .before .before .before .before .before .before .before .before .before .before .good))
+    let B = ready (c .before .before .before .before .before .before .before .before .before .before .before .before .before .pre .1) (c .before .before .before .before .before .before .before .before .before .if1 .left) (c .before .before .before .before .before .before .before .before .children-of .ensures) .second-behind _ (c .before .before .before .behind .ensures) in
+    (B .high, B .low, omega (arith, B .inside, c .before .before .before .before .before .before .before .before .before .before .before .before .before .good))
+
+-- the second child's code, whichever way it was written
+second-written : (t : ℕ) (c : write-node-lts.Joined2 (calls t) (write-node-at t) write-node.Post)
+    → Writes (c .before .before .before .before .before .before .before .before .before .before .before .before .before .args .tree .now) (c .before .before .before .before .before .before .before .before .children-of .result .second) (waitingIn (c .before .before .also-in .result)) (c .before .before .before .before .before .before .write-node .last .1 .1 .1 .1 .1 .0) (c .before .before .before .behind .result) (c .if2 .out) (c .if2 .two)
+second-written t c = elim (c .if2 .came) [
+  | inl p ↦ rw (p .5, p .6) (writes-leaf _ _ _ (p .0 .taken) (p .2 .ensures .0) (p .2 .ensures .1))
+  | inr p ↦ rw (p .5, p .6) (p .2 .ensures)
+]
+
+second-length : (t : ℕ) (c : write-node-lts.Joined2 (calls t) (write-node-at t) write-node.Post) → length (c .if2 .out) ≡ length (c .before .before .before .before .before .before .write-node .last .1 .1 .1 .1 .1 .0)
+second-length t c = elim (c .if2 .came) [
+  | inl p ↦ rw (p .5) (p .2 .kept .1 .1 .0)
+  | inr p ↦ rw (p .5) (p .2 .kept .1 .1 .1 .1 .1 .0)
+]
 
 write-node-pick-requires : (t : ℕ) → write-node-lts.Need-pick-requires (calls t) (write-node-at t) write-node.Post
 write-node-pick-requires t c κs = search needs
@@ -109,17 +140,17 @@ write-node-pick-requires-2 t c κs = search needs
 write-node-kind-of-requires : (t : ℕ) → write-node-lts.Need-kind-of-requires (calls t) (write-node-at t) write-node.Post
 write-node-kind-of-requires t c κs = search needs
 
-write-node-put-requires-2 : (t : ℕ) → write-node-lts.Need-put-requires-2 (calls t) (write-node-at t) write-node.Post
-write-node-put-requires-2 t c κs =
-    ready (c .before .before .before .before .before .before .before .before .before .before .before .before .before .before .before .before .before .before .before .before .pre .1) (c .before .before .before .before .before .before .before .before .before .before .before .before .before .before .before .before .if1 .left) (c .before .before .before .before .before .before .before .before .before .before .before .before .before .before .before .children-of .ensures) .own-room _ _ _ _ _ _ (c .before .before .before .before .before .before .before .before .before .before .behind .ensures) (c .before .before .before .before .behind2 .ensures) (c .before .before .before .before .before .before .before .before .before .before .before .before .before .write-node .ensures) (rw (c .before .before .before .before .before .before .before .before .before .also-in .ensures) at (c .before .before .before .before .before .before .before .write-node2 .ensures))
+write-node-put-requires : (t : ℕ) → write-node-lts.Need-put-requires (calls t) (write-node-at t) write-node.Post
+write-node-put-requires t c κs =
+    ready (c .before .before .before .before .before .before .before .before .before .before .before .before .before .before .before .before .before .before .pre .1) (c .before .before .before .before .before .before .before .before .before .before .before .before .before .before .if1 .left) (c .before .before .before .before .before .before .before .before .before .before .before .before .before .children-of .ensures) .own-room _ _ _ _ _ _ (c .before .before .before .before .before .before .before .before .behind .ensures) (c .before .before .before .before .behind2 .ensures) (c .before .before .before .before .before .before .before .before .before .before .before .write-node .ensures) (rw (c .before .before .before .before .before .before .before .also-in .ensures) at (second-written t (c .before .before .before .before .before)))
 
 write-node-same-length-2 : (t : ℕ) → write-node-lts.Need-same-length-2 (calls t) (write-node-at t) write-node.Post
-write-node-same-length-2 t c = c .before .before .put2 .kept .0 ∙ c .before .before .before .before .before .before .before .before .before .before .write-node2 .kept .1 .1 .1 .1 .1 .0 ∙ c .before .before .before .before .before .before .before .before .before .before .before .before .before .before .before .before .write-node .kept .1 .1 .1 .1 .1 .0
+write-node-same-length-2 t c = c .before .before .put .kept .0 ∙ second-length t (c .before .before .before .before .before .before .before .before) ∙ c .before .before .before .before .before .before .before .before .before .before .before .before .before .before .write-node .kept .1 .1 .1 .1 .1 .0
 
 write-node-returns-2 : (t : ℕ) → write-node-lts.Need-returns-2 (calls t) (write-node-at t) write-node.Post
 write-node-returns-2 t c =
-    writes-node (c .before .before .before .before .before .before .before .before .before .before .before .before .before .before .before .before .before .before .before .before .before .before .before .pre .1) (c .before .before .before .before .before .before .before .before .before .before .before .before .before .before .before .before .before .before .before .if1 .left) (c .before .before .before .before .before .before .before .before .before .before .before .before .before .before .before .before .before .before .children-of .ensures) (c .before .before .before .before .before .before .pick .ensures) (c .before .before .before .before .before .pick2 .ensures) (c .before .before .before .before .before .before .before .before .before .before .before .before .before .behind .ensures) (c .before .before .before .before .before .before .before .behind2 .ensures) (c .before .before .before .before .before .before .before .before .before .before .before .before .before .before .before .before .write-node .ensures)
-    (rw (c .before .before .before .before .before .before .before .before .before .before .before .before .also-in .ensures) at (c .before .before .before .before .before .before .before .before .before .before .write-node2 .ensures)) (c .before .before .before .kind-of .ensures) (c .before .before .put2 .ensures)
+    writes-node (c .before .before .before .before .before .before .before .before .before .before .before .before .before .before .before .before .before .before .before .before .before .pre .1) (c .before .before .before .before .before .before .before .before .before .before .before .before .before .before .before .before .before .if1 .left) (c .before .before .before .before .before .before .before .before .before .before .before .before .before .before .before .before .children-of .ensures) (c .before .before .before .before .before .before .pick .ensures) (c .before .before .before .before .before .pick2 .ensures) (c .before .before .before .before .before .before .before .before .before .before .before .behind .ensures) (c .before .before .before .before .before .before .before .behind2 .ensures) (c .before .before .before .before .before .before .before .before .before .before .before .before .before .before .write-node .ensures)
+    (rw (c .before .before .before .before .before .before .before .before .before .before .also-in .ensures) at (second-written t (c .before .before .before .before .before .before .before .before))) (c .before .before .before .kind-of .ensures) (c .before .before .put .ensures)
 
 pub +write-node-spec : {M : Type 1} → statement M
 +write-node-spec = close μ-write-node λ t. write-node-lts.spec (calls t)
@@ -127,19 +158,21 @@ pub +write-node-spec : {M : Type 1} → statement M
     write-node.Post
     (write-node-mul-x t)
     (write-node-shared-slice-read-x t)
-    (write-node-lowest-requires t)
-    (write-node-put-requires t)
+    (write-node-write-leaf-requires t)
     (write-node-same-length t)
     (write-node-returns t)
     (write-node-children-of-requires t)
     (write-node-write-node-requires t)
     (write-node-behind-requires t)
     (write-node-also-in-requires t)
+    (write-node-mul-y t)
+    (write-node-shared-slice-read-y t)
+    (write-node-write-leaf-requires-2 t)
     (write-node-write-node-requires-2 t)
     (write-node-behind-requires-2 t)
     (write-node-pick-requires t)
     (write-node-pick-requires-2 t)
     (write-node-kind-of-requires t)
-    (write-node-put-requires-2 t)
+    (write-node-put-requires t)
     (write-node-same-length-2 t)
     (write-node-returns-2 t)

@@ -1,11 +1,9 @@
--- No place is given in a new index, and new registers are empty.
+-- No place is given in a new index.
 use mathlib.Core.Path.{refl}
 use Prim.Native.Nat.{_+_}
-use native.Mathlib.Omega.{arith}
 use Rattle.player.specs.Limits.{lastGroup}
 use Rattle.player.specs.InnerWords.{placeCount}
-use Rattle.player.proofs.HoldingLaws.{newSet, holds-empty, holds-none}
-use Rattle.player.proofs.ListLaws.{code-right}
+use Rattle.player.proofs.HoldingLaws.{newSet, holds-empty}
 use Rattle.player.proofs.PlaceLaws.{no-place}
 use Rattle.player.proofs.answer.Statement.{statement}
 use Rattle.player.proofs.answer.Tie as tie
@@ -16,13 +14,10 @@ load-groups-requires c κs =
     (pre .1, pre .2, no-place (lastGroup + 1) placeCount newSet refl refl holds-empty)
 
 execute-requires : tie.Need-execute-requires
-execute-requires c κs = (holds-none, code-right _ (c .before .before .before .before .before .before .before .before .pre .0), omega arith, c .before .before .before .load-groups .ensures .0)
-
-array-copy-out-result : tie.Need-array-copy-out-result
-array-copy-out-result c = omega (arith, c .execute .ensures .0)
+execute-requires c κs = (c .before .before .before .before .before .before .before .pre .0, c .before .before .load-groups .ensures .0)
 
 returns : tie.Need-returns
-returns c = c .before .execute .ensures .1 _ (c .before .before .before .before .before .load-groups .ensures .1) .entry 0 (omega arith)
+returns c = c .execute .ensures _ (c .before .before .before .load-groups .ensures .1)
 
 pub answer-spec : {M : Type 1} → statement M
-answer-spec = tie.close (tie.spec load-groups-requires execute-requires array-copy-out-result returns)
+answer-spec = tie.close (tie.spec load-groups-requires execute-requires returns)

@@ -67,17 +67,14 @@ element-set-from-registers c = target (c .before .before .before .before)
 add-number-at-3 : tie.Need-add-number-at-3
 add-number-at-3 c = search needs
 
-sub-number-at : tie.Need-sub-number-at
-sub-number-at c = search needs
-
 number-at-requires-3 : tie.Need-number-at-requires-3
 number-at-requires-3 c κs = search needs
 
 add-number-at-4 : tie.Need-add-number-at-4
 add-number-at-4 c = search needs
 
-sub-number-at-2 : tie.Need-sub-number-at-2
-sub-number-at-2 c = search needs
+add-number-at-5 : tie.Need-add-number-at-5
+add-number-at-5 c = search needs
 
 number-at-requires-4 : tie.Need-number-at-requires-4
 number-at-requires-4 c κs = search needs
@@ -139,10 +136,9 @@ step-spec =
     mul-t17
     element-set-from-registers
     add-number-at-3
-    sub-number-at
     number-at-requires-3
     add-number-at-4
-    sub-number-at-2
+    add-number-at-5
     number-at-requires-4
     mul-combine
     element-copy-out-combine
