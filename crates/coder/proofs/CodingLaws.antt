@@ -2,14 +2,14 @@
 -- each step adds what stands before the child's code in that of its parent. For the crates above: `encodes-tree`.
 use mathlib.Core.Path.{_≡_, refl, sym, ap, ap₂, _∙_}
 use mathlib.Core.Bool.{Bool, true, false, not, cond}
-use mathlib.Core.Option.{some}
+use mathlib.Core.Option.{some, none}
 use mathlib.Core.List.{List, [], _∷_}
 use Prim.Native.Nat.{ℕ, _+_, _-_, _≤_, _<_}
 use native.Mathlib.Omega.{arith}
 use borrow.Author.Tests.{le-leb, lt-leb, lt-ltb, le-ltb, ltb-true, ltb-false}
 use lib.Dec.{ltb}
 use lib.ListN.{length, getD}
-use Rattle.common.specs.Answer.{done}
+use Rattle.common.specs.Answer.{done, refusedWith}
 use Rattle.tree.specs.Tree.{Operator, Tree, leaf, node, size}
 use Rattle.tree.specs.Context.{right, plug, before}
 use Rattle.tree.specs.Parse.{treeOf, isSome, locate}
@@ -72,6 +72,13 @@ module _ {I : Type 0} (least : ℕ) (codeT : Tree → List I) (numbers : List I 
       let z = le-ltb (length out) least h in
       let d : r ≡ Done (length (codeT t)) = only-done r (length (codeT t)) (E .says ∙ rw (z, e)) in
       record { done = d; never = λ k f. let z : _≡_ {A = ℕ} 0 1 = cc in omega arith; written = E .written ∙ rw (z, e) }
+
+  -- and where the list is no tree, that it is not done
+  pub encodes-none : {tree out after : List ℕ} {r : Coded} → EncodesBy least codeT numbers tree out r after → treeOf tree ≡ none → least ≤ length out → (n : ℕ) → r ≡ Done n → ⊥
+  encodes-none {tree} {out} {after} {r} E e h n f =
+      let q : codedSays r ≡ refusedWith 12 = E .says ∙ rw (le-ltb (length out) least h, e) in
+      let z : _≡_ {A = ℕ} 0 1 = cc in
+      omega arith
 
 -- ---- of 01's player
 pub root-writable : {l s n out : List ℕ} {at : ℕ} → isSome (treeOf l) ≡ true → Noted l s n → at + leastBuffer ≤ length out → Writable l s n (length l - 1) 0 out at

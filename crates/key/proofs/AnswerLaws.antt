@@ -9,7 +9,7 @@ use Rattle.common.specs.Answer.{done}
 use Rattle.tree.specs.Tree.{Tree, postfix, size, mostNodes}
 use Rattle.tree.specs.Writing.{over}
 use Rattle.tree.specs.InnerWriting.{Wrote}
-use Rattle.tree.proofs.WritingLaws.{wrote-then, wrote-as, wrote-over, take-over}
+use Rattle.tree.proofs.WritingLaws.{wrote-then, wrote-as, wrote-over}
 use Rattle.tree.proofs.TreeLaws.{postfix-length}
 use Rattle.tree.proofs.GroupLaws.{groups-leaves}
 use Rattle.text.specs.Line.{line, lines}
@@ -34,12 +34,13 @@ use Rattle.lift_lines.specs.Lifting.{treeAfter, liftAnswers}
 use Rattle.key.specs.Call.{keyBytes, KeyOf, KeyWith, keySays, KeyCall}
 use Rattle.key.specs.InnerKeyOf.{heldBy, codeBy, keyIn, keyFor, keyBy, keyForSchool, schoolKeyOf, KeyBy}
 use Rattle.lift_lines.specs.Inner.{liftBytes, IsList, Asked, LiftedAll}
-use Rattle.key.specs.Inner.{Markable, Finished, ReadAs, WroteKey}
+use Rattle.key.specs.Inner.{AllButCode, Markable, Finished, PutsHeld, ReadAs, WroteKey, PutsBeforeCode}
 use Rattle.lift_lines.specs.declared.Progress.{Progress}
 use Rattle.key.specs.declared.KeyAnswer.{KeyAnswer}
 use Rattle.key.specs.declared.KeyAnswer.the-variants.{Written, Short}
 use Rattle.sheet.proofs.LiftLineLaws.{lifts-few}
 use Rattle.lift_lines.proofs.LiftingLaws.{after-keeps}
+use Rattle.key.proofs.FinishLaws.{copied, no-lines}
 use Rattle.key.proofs.GatheringLaws.{markable-keeps}
 use Rattle.key.proofs.DemandLaws.{demand-3}
 use Rattle.printing.specs.declared.Device.{Device}
@@ -118,21 +119,26 @@ is-read {s} {read} {st} R = subst (IsRead s st) (sym (R .answers)) (answer-is s 
 
 module _ {s : List ℕ} {st : ReadingState} {read : Sheet} (I : IsRead s st read) where
   -- the tree's list in its array
-  pub read-copied : {zeros tree : List ℕ} {next : ℕ} → mostNodes ≤ length zeros → Wrote zeros 0 tree next (take (read .nodes) (read .tree)) → IsList (take (read .nodes) tree) (I .has .tree)
-  read-copied {zeros} {tree} h w =
-      let n = postfix-length (I .has .tree) in
-      let c : tree ≡ over (postfix (I .has .tree)) zeros = wrote-over (wrote-as w (I .list)) (omega (arith, n, I .most)) in
-      record { list = rw c (take-over (postfix (I .has .tree)) zeros (read .nodes) (I .counted ∙ sym n)); most = I .most }
+  pub read-copied : {old tree : List ℕ} {next : ℕ} → mostNodes ≤ length old → Wrote old 0 tree next (take (read .nodes) (read .tree)) → IsList (take (read .nodes) tree) (I .has .tree)
+  read-copied h w = copied (read .nodes) (record { list = I .list; most = I .most }) (I .counted) h w
 
   pub read-marks : {m : MoveTable} → Right m → Markable (treeAfter m (I .has .tree) (st .lifts)) (take (read .marked) (read .marks))
   read-marks R = rw (I .marks) (marks-left s st (I .is) (I .has) R)
 
-  pub read-answered : (d : Device) {m : MoveTable} → Right m → {tree′ out out₁ out₂ : List ℕ} {r : Progress} {next : ℕ} → LiftedAll m (I .has .tree) (st .lifts) tree′ r out out₁
-      → Finished d (treeAfter m (I .has .tree) (st .lifts)) (take (read .marked) (read .marks)) out₁ (r .next) out₂ next → WroteKey d m (accepted st) out out₂ next
-  read-answered d R L F = answered s st (I .is) (I .has) d R L (rw (I .marks) at F)
-
   pub read-most : {m : MoveTable} {tree′ out out₁ : List ℕ} {r : Progress} → LiftedAll m (I .has .tree) (st .lifts) tree′ r out out₁ → r .next ≤ 160000
   read-most L = omega (arith, L .most, I .few, I .asks .counted)
+
+  -- the lifts' lines and, if any, the HELD line are all but the code
+  pub read-left : {m : MoveTable} → Right m → {tree₁ tree₂ out out₁ out₂ : List ℕ} {r left : Progress} → LiftedAll m (I .has .tree) (st .lifts) tree₁ r out out₁
+      → PutsHeld tree₁ (r .nodes) (take (read .marked) (read .marks)) out₁ (r .next) tree₂ out₂ left → PutsBeforeCode (λ d. WroteKey d m (accepted st) out) tree₂ out₂ left
+  read-left {m} R {tree₁} {tree₂} {out} {out₁} {out₂} {r} L P = record {
+    inside = P .inside;
+    room = omega (arith, P .most, read-most L);
+    holds = λ d. record {
+      whole = λ out′ last v. answered s st (I .is) (I .has) d R L
+          (subst (λ (ms : List ℕ). Finished d (treeAfter m (I .has .tree) (st .lifts)) ms out₁ (r .next) out′ last) (I .marks) (P .holds d _ (L .holds) (read-marks R) .whole out′ last v));
+    };
+  }
 
 -- ---- a sheet of any bytes: accepted, or refused
 pub accepted-read : (s : List ℕ) (read : Sheet) → read ≡ sheetOf (reading s) → read .number ≡ 0 → (st : ReadingState) × ReadAs s read st
@@ -140,14 +146,24 @@ accepted-read s read e z =
     let n = number-accepted s (ap (λ (x : Sheet). x .number) (sym e) ∙ z) in
     (n .0, record { accepts = n .1; answers = e ∙ ap sheetOf (n .1) })
 
-pub wrote-refused : (d : Device) (m : MoveTable) (s out out′ : List ℕ) (n : ℕ) (read : Sheet) → read ≡ sheetOf (reading s) → (read .number ≡ 0 → ⊥) → n ≤ keyBytes
+wrote-refused : (d : Device) (m : MoveTable) (s out out′ : List ℕ) (n : ℕ) (read : Sheet) → read ≡ sheetOf (reading s) → (read .number ≡ 0 → ⊥) → n ≤ keyBytes
     → Wrote out 0 out′ n (line NO (read .number ∷ read .line ∷ [])) → WroteKey d m (reading s) out out′ n
 wrote-refused d m s out out′ n read e z most w =
     let q : reading s ≡ refused (read .number) (read .line) = rw (← e) at (number-refused s (rw e at z)) in
     subst (λ (o : ReadingOutcome). WroteKey d m o out out′ n) (sym q) (record { answers = refl; wrote = unfold keyBy in wrote-as w (refusal-text d (read .number) (read .line)); most = most })
 
-pub wrote-accepted : (d : Device) (m : MoveTable) (s : List ℕ) {out out′ : List ℕ} {n : ℕ} {o : ReadingOutcome} → reading s ≡ o → WroteKey d m o out out′ n → WroteKey d m (reading s) out out′ n
-wrote-accepted d m s {out} {out′} {n} e W = subst (λ (o : ReadingOutcome). WroteKey d m o out out′ n) (sym e) W
+-- no code follows a refusal
+pub refused-left : (m : MoveTable) (s tree : List ℕ) {out out₁ : List ℕ} {next : ℕ} (read : Sheet) → read ≡ sheetOf (reading s) → (read .number ≡ 0 → ⊥)
+    → Wrote out 0 out₁ next (line NO (read .number ∷ read .line ∷ [])) → next ≤ keyBytes → (d : Device) → AllButCode d (WroteKey d m (reading s) out) tree 0 out₁ next
+refused-left m s tree {out} {out₁} {next} read e z w h d = record {
+  whole = λ out′ last v.
+      let none = no-lines d tree 0 refl in
+      wrote-refused d m s out out′ last read e z (omega (arith, v .ends, ap (length {A = ℕ}) none)) (wrote-as (wrote-then w v) (ap (λ (l : List ℕ). line NO (read .number ∷ read .line ∷ []) ++ l) none ∙ append-nil (line NO (read .number ∷ read .line ∷ []))));
+}
+
+pub accepted-left : (m : MoveTable) (s : List ℕ) {out out₁ tree : List ℕ} {r : Progress} {o : ReadingOutcome} → reading s ≡ o → PutsBeforeCode (λ d. WroteKey d m o out) tree out₁ r
+    → PutsBeforeCode (λ d. WroteKey d m (reading s) out) tree out₁ r
+accepted-left m s {out} {out₁} {tree} {r} e P = subst (λ (o : ReadingOutcome). PutsBeforeCode (λ d. WroteKey d m o out) tree out₁ r) (sym e) P
 
 -- ---- the contract of a call: both promises
 abbrev pub Keys : (d : Device) → (Key (InstructionOf d) → Type 0) → List ℕ → List ℕ → KeyAnswer → List ℕ → Type 0

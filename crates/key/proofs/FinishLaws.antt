@@ -2,7 +2,7 @@
 use mathlib.Core.Path.{_≡_, refl, sym, ap, ap₂, subst, _∙_}
 use mathlib.Core.Bool.{Bool}
 use mathlib.Core.List.{List, [], _∷_, _++_, append-nil}
-use mathlib.Core.Option.{some, none}
+use mathlib.Core.Option.{Option, some, none}
 use Prim.Native.Nat.{ℕ, _+_, _≤_, _<_}
 use native.Mathlib.Omega.{arith}
 use borrow.Author.Tests.{lt-ltb}
@@ -10,11 +10,12 @@ use lib.ListN.{length, take, drop, length-append}
 use Rattle.tree.specs.Tree.{Tree, postfix, size, mostNodes, isIn}
 use Rattle.tree.specs.Context.{position}
 use Rattle.tree.specs.Parse.{treeOf, locate}
+use Rattle.tree.specs.Writing.{over}
 use Rattle.tree.specs.InnerWriting.{Wrote}
 use Rattle.tree.proofs.TreeLaws.{postfix-length, size-positive}
 use Rattle.tree.proofs.ContextLaws.{locate-plug, position-most}
-use Rattle.tree.proofs.ParseLaws.{tree-of-postfix}
-use Rattle.tree.proofs.WritingLaws.{wrote-then, wrote-as, take-over}
+use Rattle.tree.proofs.ParseLaws.{tree-of-postfix, tree-of-sound, tree-length}
+use Rattle.tree.proofs.WritingLaws.{wrote-then, wrote-as, wrote-over, take-over}
 use Rattle.text.specs.Line.{line, lines}
 use Rattle.code.specs.Need.{nodesBefore}
 use Rattle.code.specs.Runs.{runFirst, runCount}
@@ -33,9 +34,30 @@ use Rattle.key.proofs.DeviceLaws.{lawful}
 use Rattle.printing.specs.Key.{Held, unmarked, cannot, HELD, heldRows, instructionRows}
 use Rattle.key.specs.InnerKeyOf.{heldAs, heldIn, heldBy, codeBy}
 use Rattle.lift_lines.specs.Inner.{IsList}
-use Rattle.key.specs.Inner.{heldBytes, codeBytes, Markable, Ends, Finished}
+use Rattle.key.specs.Inner.{heldBytes, codeBytes, codeLines, AllButCode, Markable, Ends, Finished}
 use Rattle.printing.proofs.PrintingLaws.{held-most, never-most}
 use Rattle.key.proofs.GatheringLaws.{no-fault}
+
+-- ---- the code's lines
+-- of the list of a tree
+pub tree-lines : (d : Device) {list : List ℕ} {u : Tree} → IsList list u → codeLines d list ≡ lines (instructionRows (rowFor d) (codeFor d u))
+tree-lines d {list} {u} w = rw (w .list, tree-of-postfix u (w .most))
+
+-- there are none of no entries
+pub no-lines : (d : Device) (tree : List ℕ) (nodes : ℕ) → nodes ≡ 0 → codeLines d (take nodes tree) ≡ []
+unfolding lines instructionRows
+no-lines d tree nodes e = rw e (go (treeOf []) refl)
+  where
+    go : (o : Option Tree) → treeOf [] ≡ o → codeLines d [] ≡ []
+    go none q = rw q
+    go (some t) q = let I = tree-of-sound [] t q in absurd (omega (arith, tree-length I, size-positive (I .tree)))
+
+-- where a tree's list is copied to the front of an array, the array's first entries are the list
+pub copied : {source old new : List ℕ} {next : ℕ} {u : Tree} (nodes : ℕ) → IsList source u → nodes ≡ size u → mostNodes ≤ length old → Wrote old 0 new next source → IsList (take nodes new) u
+copied {source} {old} {new} {next} {u} nodes w e full c =
+    let n = postfix-length u in
+    let o : new ≡ over (postfix u) old = wrote-over (wrote-as c (w .list)) (omega (arith, n, w .most)) in
+    record { list = rw o (take-over (postfix u) old nodes (e ∙ sym n)); most = w .most }
 
 pub empty-list : (l : List ℕ) → length l ≡ 0 → l ≡ []
 empty-list [] e = refl
@@ -120,7 +142,7 @@ module _ (g : Tree) (m : ℕ → Bool) (p : ℕ) (H : Gathered m g p) (most : si
       let n : nodesBefore (H .holder) (H .above) + size (H .holder) ≤ size g = rw (H .whole) (before-most (H .holder) (H .above)) in
       held-most (run .first) (run .count) (omega (arith, run-first, n, size-positive (H .holder))) (omega (arith, run-count, n))
 
--- ---- both answers of `put_held`
+-- ---- the answers of `put_held`
 pub finished-never : (d : Device) {u : Tree} {marks out out′ : List ℕ} {at next : ℕ} → 1 ≤ length marks → CannotBeGathered (isIn marks) u × (gatheredBy u marks ≡ none)
     → Wrote out at out′ next (line HELD (19 ∷ [])) → Finished d u marks out at out′ next
 finished-never d {u} {marks} k (C, e) w =
@@ -153,3 +175,18 @@ finished-held d {u} {marks} {old} {new} {out} {out₁} {out₂} {count} {holder}
     )
     (wrote-as (wrote-then w v) (unfold lines in refl))
     (omega (arith, w .ends, v .ends, lawful d .text-most g (T .most), run-line g (isIn marks) holder (T .gathered) (T .most) (take count new) l run R))
+
+-- each is all but the code
+pub plain-left : {u : Tree} {tree marks out : List ℕ} {nodes at : ℕ} → marks ≡ [] → (d : Device) → IsList (take nodes tree) u → AllButCode d (Finished d u marks out at) tree nodes out at
+plain-left e d w = record { whole = λ out′ last v. finished-plain d (w .most) e (wrote-as v (tree-lines d w)) }
+
+pub never-left : {u : Tree} {marks out out₁ : List ℕ} {at next : ℕ} (tree : List ℕ) → 1 ≤ length marks → CannotBeGathered (isIn marks) u × (gatheredBy u marks ≡ none)
+    → Wrote out at out₁ next (line HELD (19 ∷ [])) → (d : Device) → AllButCode d (Finished d u marks out at) tree 0 out₁ next
+never-left tree k C w d = record {
+  whole = λ out′ last v. finished-never d k C (wrote-as (wrote-then w v) (ap (λ (l : List ℕ). line HELD (19 ∷ []) ++ l) (no-lines d tree 0 refl) ∙ append-nil (line HELD (19 ∷ []))));
+}
+
+pub held-left : {u : Tree} {marks old new out out₁ tree : List ℕ} {count holder at next : ℕ} (D : NamedTo u marks old new count holder) (run : Run)
+    → run ≡ runOf (treeOf (take count new)) holder → 1 ≤ length marks → Wrote out at out₁ next (line HELD (0 ∷ run .first ∷ run .count ∷ [])) → IsList (take count tree) (D .to .result)
+    → (d : Device) → AllButCode d (Finished d u marks out at) tree count out₁ next
+held-left D run R k w l d = record { whole = λ out′ last v. finished-held d D run R k w (wrote-as v (tree-lines d l)) }

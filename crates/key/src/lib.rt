@@ -1,19 +1,15 @@
 // The key of a sheet: its lifts in order, its marked groups gathered, its code, printed.
-ghost use Prim.Native.Nat.{_+_, _*_, _≤_};
-ghost use lib.ListN.{length};
-ghost use Rattle.tree.specs.Tree.{Tree};
+ghost use Prim.Native.Nat.{_+_, _≤_};
+ghost use lib.ListN.{length, take};
+ghost use Rattle.tree.specs.Tree.{mostNodes};
 ghost use Rattle.tree.specs.InnerWriting.{Wrote};
-ghost use Rattle.text.specs.Line.{lines};
 ghost use Rattle.moves.specs.Moves.{MoveTable, ours};
 ghost use Rattle.moves.specs.InnerEntries.{TableIs, SomeTable};
 ghost use Rattle.sheet.specs.Reading.{ReadingState, accepted, reading};
-ghost use Rattle.printing.specs.Key.{instructionRows};
 ghost use Rattle.move_table.specs.Loading.{loading};
-ghost use Rattle.key.specs.Devices.{codeFor, rowFor};
 ghost use Rattle.key.specs.Call.{keyBytes, KeyOf, KeyWith, KeyCall};
 ghost use Rattle.key.specs.InnerKeyOf.{keyOf, schoolKeyOf, KeyBy};
-ghost use Rattle.lift_lines.specs.Inner.{IsList};
-ghost use Rattle.key.specs.Inner.{codeBytes, EncodesFor, MarkedTree, Finishes, ReadAs, WroteKey};
+ghost use Rattle.key.specs.Inner.{codeBytes, EncodesFor, codeLines, MarkedTree, PutsHeld, ReadAs, WroteKey, PutsBeforeCode};
 
 // As many bytes as every key fits in.
 pub const KEY_BYTES: usize = 274699;
@@ -28,10 +24,10 @@ fn encode_for(tree: &[u16], out: &mut [u16], device: printing::Device) -> coder:
     }
 }
 
-// Writes the code of a tree.
+// Writes the code of the tree that a list is, nothing for a list that is no tree.
 fn put_tree_code(tree: &[u16], out: &mut [u8], at: usize, device: printing::Device) -> usize
-    requires { ⌜ ((u : Tree) × IsList (now tree) u) × (at + codeBytes ≤ length (now out)) ⌝ }
-    ensures { λ r. ⌜ ((u : Tree) → IsList (now (tree .entry)) u → Wrote (now (out .entry)) at (now (out .exit)) r (lines (instructionRows (rowFor device) (codeFor device u)))) ⌝ }
+    requires { ⌜ at + codeBytes ≤ length (now out) ⌝ }
+    ensures { λ r. ⌜ Wrote (now (out .entry)) at (now (out .exit)) r (codeLines device (now (tree .entry))) ⌝ }
 {
     let mut code = [0u16; older_coder::LEAST_BUFFER];
     let coded = encode_for(tree, &mut code, device);
@@ -41,88 +37,105 @@ fn put_tree_code(tree: &[u16], out: &mut [u8], at: usize, device: printing::Devi
     printing::put_code(device, &code[..4 * count], out, at)
 }
 
-// Gathers the marked groups in a tree, and writes the HELD line and the code.
-fn put_held(
+// Writes the code that is left to write: of the first `nodes` entries, if there are any.
+fn finish(
     tree: &[u16],
+    left: lift_lines::Progress,
+    out: &mut [u8],
+    device: printing::Device,
+) -> usize
+    requires { ⌜ (left .nodes ≤ length (now tree)) × (left .next + codeBytes ≤ length (now out)) ⌝ }
+    ensures { λ r. ⌜ Wrote (now (out .entry)) (left .next) (now (out .exit)) r (codeLines device (take (left .nodes) (now (tree .entry)))) ⌝ }
+{
+    let nodes = left.nodes;
+    if nodes == 0 {
+        return left.next;
+    }
+    put_tree_code(&tree[..nodes], out, left.next, device)
+}
+
+// Gathers the marked groups, if there are any, in the tree that the first `nodes` entries are, and writes the HELD line. Leaves the tree of
+// which the code follows, no entries where none does.
+fn put_held(
+    tree: &mut [u16],
+    nodes: usize,
     marks: &[u16],
     out: &mut [u8],
     at: usize,
-    device: printing::Device,
-) -> usize
-    requires { ⌜ (1 ≤ length (now marks)) × MarkedTree (now tree) (now marks) (now out) at ⌝ }
-    ensures { λ r. ⌜ Finishes device (now (tree .entry)) (now (marks .entry)) (now (out .entry)) at (now (out .exit)) r ⌝ }
-{
-    let mut gathered = [0u16; tree::MOST_NODES];
-    let verdict = gather::gather(tree, marks, &mut gathered);
-    let gather::Gathering::Done { nodes, holder } = verdict else {
-        return text::put_line(b"HELD", &[gather::CANNOT_BE_GATHERED as usize], out, at);
-    };
-    let run = coder::run_of(&gathered[..nodes], holder);
-    let next = text::put_line(b"HELD", &[0, run.first, run.count], out, at);
-    put_tree_code(&gathered[..nodes], out, next, device)
-}
-
-// Writes what follows the lifts.
-fn finish(tree: &[u16], marks: &[u16], out: &mut [u8], at: usize, device: printing::Device) -> usize
-    requires { ⌜ MarkedTree (now tree) (now marks) (now out) at ⌝ }
-    ensures { λ r. ⌜ Finishes device (now (tree .entry)) (now (marks .entry)) (now (out .entry)) at (now (out .exit)) r ⌝ }
+) -> lift_lines::Progress
+    requires { ⌜ MarkedTree (now tree) nodes (now marks) (now out) at ⌝ }
+    ensures { λ r. ⌜ PutsHeld (now (tree .entry)) nodes (now (marks .entry)) (now (out .entry)) at (now (tree .exit)) (now (out .exit)) r ⌝ }
 {
     if marks.len() == 0 {
-        return put_tree_code(tree, out, at, device);
+        return lift_lines::Progress { nodes, next: at };
     }
-    put_held(tree, marks, out, at, device)
+    let mut gathered = [0u16; tree::MOST_NODES];
+    let verdict = gather::gather(&tree[..nodes], marks, &mut gathered);
+    let gather::Gathering::Done {
+        nodes: count,
+        holder,
+    } = verdict
+    else {
+        let next = text::put_line(b"HELD", &[gather::CANNOT_BE_GATHERED as usize], out, at);
+        return lift_lines::Progress { nodes: 0, next };
+    };
+    let run = coder::run_of(&gathered[..count], holder);
+    let next = text::put_line(b"HELD", &[0, run.first, run.count], out, at);
+    tree::copy(&gathered[..count], tree, 0);
+    lift_lines::Progress { nodes: count, next }
 }
 
-// The key of a sheet that reading accepts, by the table whose words' signs and lengths are given, without any by ours.
+// The same for a sheet that reading accepts, after its lifts, by the table whose words' signs and lengths are given, without any by ours.
 fn answer_sheet(
     sheet: &[u8],
     read: sheet::Sheet,
+    tree: &mut [u16],
     out: &mut [u8],
     signs: &[u8],
     lengths: &[u8],
-    device: printing::Device,
-) -> usize
-    requires { ⌜ ((st : ReadingState) × ReadAs (now sheet) read st) × (keyBytes ≤ length (now out)) × SomeTable (now signs) (now lengths) ⌝ }
+) -> lift_lines::Progress
+    requires { ⌜ ((st : ReadingState) × ReadAs (now sheet) read st) × (mostNodes ≤ length (now tree)) × (keyBytes ≤ length (now out))
+        × SomeTable (now signs) (now lengths) ⌝ }
     ensures { λ r. ⌜ ((m : MoveTable) → TableIs m (now (signs .entry)) (now (lengths .entry)) → (st : ReadingState) → ReadAs (now (sheet .entry)) read st
-        → WroteKey device m (accepted st) (now (out .entry)) (now (out .exit)) r) ⌝ }
+        → PutsBeforeCode (λ d. WroteKey d m (accepted st) (now (out .entry))) (now (tree .exit)) (now (out .exit)) r) ⌝ }
 {
-    let mut tree = [0u16; tree::MOST_NODES];
     let entries = read.tree;
     let nodes = read.nodes;
-    tree::copy(&entries[..nodes], &mut tree, 0);
+    tree::copy(&entries[..nodes], tree, 0);
     let done = lift_lines::lift_all(
         sheet,
         read.start,
         read.lifts,
-        &mut tree,
+        tree,
         nodes,
         out,
         signs,
         lengths,
     );
-    let left = done.nodes;
     let marks = read.marks;
     let marked = read.marked;
-    finish(&tree[..left], &marks[..marked], out, done.next, device)
+    put_held(tree, done.nodes, &marks[..marked], out, done.next)
 }
 
-// Writes the key of a sheet of any bytes by that table, and returns how many bytes it has.
-fn key_by(
+// Writes of the key of a sheet of any bytes by that table what stands before the code.
+fn put_before_code(
     sheet: &[u8],
+    tree: &mut [u16],
     out: &mut [u8],
     signs: &[u8],
     lengths: &[u8],
-    device: printing::Device,
-) -> usize
-    requires { ⌜ (keyBytes ≤ length (now out)) × SomeTable (now signs) (now lengths) ⌝ }
-    ensures { λ r. ⌜ ((m : MoveTable) → TableIs m (now (signs .entry)) (now (lengths .entry)) → WroteKey device m (reading (now (sheet .entry))) (now (out .entry)) (now (out .exit)) r) ⌝ }
+) -> lift_lines::Progress
+    requires { ⌜ (mostNodes ≤ length (now tree)) × (keyBytes ≤ length (now out)) × SomeTable (now signs) (now lengths) ⌝ }
+    ensures { λ r. ⌜ ((m : MoveTable) → TableIs m (now (signs .entry)) (now (lengths .entry))
+        → PutsBeforeCode (λ d. WroteKey d m (reading (now (sheet .entry))) (now (out .entry))) (now (tree .exit)) (now (out .exit)) r) ⌝ }
 {
     let read = sheet::read(sheet);
     let number = read.number;
     if number != 0 {
-        return text::put_line(b"NO", &[number as usize, read.line], out, 0);
+        let next = text::put_line(b"NO", &[number as usize, read.line], out, 0);
+        return lift_lines::Progress { nodes: 0, next };
     }
-    answer_sheet(sheet, read, out, signs, lengths, device)
+    answer_sheet(sheet, read, tree, out, signs, lengths)
 }
 
 // The key was written, of so many bytes; or the buffer is too short for some key.
@@ -140,7 +153,9 @@ pub fn key(sheet: &[u8], out: &mut [u8], device: printing::Device) -> KeyAnswer
         return KeyAnswer::Short;
     }
     let nothing = [0u8; 0];
-    let next = key_by(sheet, out, &nothing, &nothing, device);
+    let mut tree = [0u16; tree::MOST_NODES];
+    let left = put_before_code(sheet, &mut tree, out, &nothing, &nothing);
+    let next = finish(&tree, left, out, device);
     KeyAnswer::Written(next)
 }
 
@@ -161,6 +176,8 @@ pub fn key_with(sheet: &[u8], table: &[u8], out: &mut [u8], device: printing::De
     let school = load.table;
     let signs = school.signs;
     let lengths = school.lengths;
-    let next = key_by(sheet, out, &signs, &lengths, device);
+    let mut tree = [0u16; tree::MOST_NODES];
+    let left = put_before_code(sheet, &mut tree, out, &signs, &lengths);
+    let next = finish(&tree, left, out, device);
     KeyAnswer::Written(next)
 }

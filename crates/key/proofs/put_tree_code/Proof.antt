@@ -1,13 +1,13 @@
--- `key::put_tree_code` meets its contract: `encode` has room and its list is a tree's, so it answers done with that tree's code.
+-- `encode` has room, so it answers done with the code of the tree that the list is, or the list is no tree.
 use mathlib.Core.Path.{sym}
 use Prim.Native.Nat.{_*_}
 use native.Mathlib.Omega.{arith}
 use borrow.Author.Needs.{needs}
 use lib.ListN.{replicate}
 use lib.Seq.{length-take-le}
-use Rattle.tree.proofs.WritingLaws.{wrote-as}
+use Rattle.tree.proofs.WritingLaws.{wrote-as, wrote-nothing}
 use Rattle.common.proofs.ListLaws.{zeros-length}
-use Rattle.key.proofs.EncodingLaws.{encoded, encoded-not}
+use Rattle.key.proofs.EncodingLaws.{encoded, not-encoded}
 use Rattle.key.proofs.put_tree_code.Statement.{statement}
 use Rattle.key.proofs.put_tree_code.Tie as tie
 
@@ -27,15 +27,14 @@ returns : tie.Need-returns
 returns c =
     let args = c .before .before .before .before .before .before .before .args in
     let encode = c .before .before .before .encode-for in
-    λ u w. encoded-not (args .device) (args .tree .now) (replicate 32768 0) (encode .result) (encode .last .1 .0) u w (zeros-length 32768) (encode .ensures) (c .enum-told .given .0 .0) (c .enum-told .given .1)
+    wrote-as (wrote-nothing _ _) (sym (not-encoded (args .device) (args .tree .now) (replicate 32768 0) (encode .result) (encode .last .1 .0) (zeros-length 32768) (encode .ensures) (c .enum-told .given .0 .0) (c .enum-told .given .1)))
 
 mul-code : tie.Need-mul-code
 mul-code c =
     let pre = c .before .before .before .before .before .before .before .before .pre in
     let args = c .before .before .before .before .before .before .before .before .args in
     let encode = c .before .before .before .before .encode-for in
-    let p = pre .0 in
-    let e = encoded (args .device) (args .tree .now) (replicate 32768 0) (encode .result) (encode .last .1 .0) (p .0) (p .1) (zeros-length 32768) (encode .ensures) (c .before .coded .given .0 .0) (c .before .coded .given .1) in
+    let e = encoded (args .device) (args .tree .now) (replicate 32768 0) (encode .result) (encode .last .1 .0) (zeros-length 32768) (encode .ensures) (c .before .coded .given .0 .0) (c .before .coded .given .1) in
     omega (arith, e .small)
 
 array-share-prefix-code : tie.Need-array-share-prefix-code
@@ -43,16 +42,14 @@ array-share-prefix-code c =
     let pre = c .before .before .before .before .before .before .before .before .pre in
     let args = c .before .before .before .before .before .before .before .before .args in
     let encode = c .before .before .before .before .encode-for in
-    let p = pre .0 in
-    encoded (args .device) (args .tree .now) (replicate 32768 0) (encode .result) (encode .last .1 .0) (p .0) (p .1) (zeros-length 32768) (encode .ensures) (c .before .coded .given .0 .0) (c .before .coded .given .1) .long
+    encoded (args .device) (args .tree .now) (replicate 32768 0) (encode .result) (encode .last .1 .0) (zeros-length 32768) (encode .ensures) (c .before .coded .given .0 .0) (c .before .coded .given .1) .long
 
 slice-aggregate-put-code : tie.Need-slice-aggregate-put-code
 slice-aggregate-put-code c =
     let pre = c .before .before .before .before .before .before .before .before .before .pre in
     let args = c .before .before .before .before .before .before .before .before .before .args in
     let encode = c .before .before .before .before .before .encode-for in
-    let p = pre .0 in
-    sym (length-take-le (4 * c .before .before .coded .given .0 .0) (encode .last .1 .0) (encoded (args .device) (args .tree .now) (replicate 32768 0) (encode .result) (encode .last .1 .0) (p .0) (p .1) (zeros-length 32768) (encode .ensures) (c .before .before .coded .given .0 .0) (c .before .before .coded .given .1) .long))
+    sym (length-take-le (4 * c .before .before .coded .given .0 .0) (encode .last .1 .0) (encoded (args .device) (args .tree .now) (replicate 32768 0) (encode .result) (encode .last .1 .0) (zeros-length 32768) (encode .ensures) (c .before .before .coded .given .0 .0) (c .before .before .coded .given .1) .long))
 
 put-code-requires : tie.Need-put-code-requires
 put-code-requires c κs =
@@ -60,9 +57,8 @@ put-code-requires c κs =
     let args = c .before .before .before .before .before .before .before .before .before .before .args in
     let encode = c .before .before .before .before .before .before .encode-for in
     let coded = c .before .before .before .coded in
-    let p = pre .0 in
-    let e = encoded (args .device) (args .tree .now) (replicate 32768 0) (encode .result) (encode .last .1 .0) (p .0) (p .1) (zeros-length 32768) (encode .ensures) (coded .given .0 .0) (coded .given .1) in
-    omega (arith, e .room, pre .1)
+    let e = encoded (args .device) (args .tree .now) (replicate 32768 0) (encode .result) (encode .last .1 .0) (zeros-length 32768) (encode .ensures) (coded .given .0 .0) (coded .given .1) in
+    omega (arith, e .room, pre)
 
 same-length : tie.Need-same-length
 same-length c = search needs
@@ -72,7 +68,7 @@ returns-2 c =
     let args = c .before .before .before .before .before .before .before .before .before .before .before .before .before .args in
     let encode = c .before .before .before .before .before .before .before .before .before .encode-for in
     let coded = c .before .before .before .before .before .before .coded in
-    λ u w. wrote-as (c .before .before .put-code .ensures) (encoded (args .device) (args .tree .now) (replicate 32768 0) (encode .result) (encode .last .1 .0) u w (zeros-length 32768) (encode .ensures) (coded .given .0 .0) (coded .given .1) .text)
+    wrote-as (c .before .before .put-code .ensures) (encoded (args .device) (args .tree .now) (replicate 32768 0) (encode .result) (encode .last .1 .0) (zeros-length 32768) (encode .ensures) (coded .given .0 .0) (coded .given .1) .text)
 
 pub put-tree-code-spec : {M : Type 1} → statement M
 put-tree-code-spec =
