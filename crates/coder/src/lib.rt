@@ -41,8 +41,8 @@ struct Below {
     before: usize,
 }
 
-// Writes the code of the node at `end` from index `at` on, and returns the index after it. A leaf that comes second, as most do, takes no
-// call of its own.
+// Writes the code of the node at `end` from index `at` on, and returns the index after it. A leaf that comes second takes no call of its
+// own; one comes first only before another leaf.
 fn write_node(
     tree: &[u16],
     starts: &[u16; tree::MOST_NODES],

@@ -40,7 +40,7 @@ use Rattle.key.specs.declared.KeyAnswer.{KeyAnswer}
 use Rattle.key.specs.declared.KeyAnswer.the-variants.{Written, Short}
 use Rattle.sheet.proofs.LiftLineLaws.{lifts-few}
 use Rattle.lift_lines.proofs.LiftingLaws.{after-keeps}
-use Rattle.key.proofs.FinishLaws.{copied, no-lines}
+use Rattle.key.proofs.FinishLaws.{copied, nothing-behind}
 use Rattle.key.proofs.GatheringLaws.{markable-keeps}
 use Rattle.key.proofs.DemandLaws.{demand-3}
 use Rattle.printing.specs.declared.Device.{Device}
@@ -157,8 +157,8 @@ pub refused-left : (m : MoveTable) (s tree : List ℕ) {out out₁ : List ℕ} {
     → Wrote out 0 out₁ next (line NO (read .number ∷ read .line ∷ [])) → next ≤ keyBytes → (d : Device) → AllButCode d (WroteKey d m (reading s) out) tree 0 out₁ next
 refused-left m s tree {out} {out₁} {next} read e z w h d = record {
   whole = λ out′ last v.
-      let none = no-lines d tree 0 refl in
-      wrote-refused d m s out out′ last read e z (omega (arith, v .ends, ap (length {A = ℕ}) none)) (wrote-as (wrote-then w v) (ap (λ (l : List ℕ). line NO (read .number ∷ read .line ∷ []) ++ l) none ∙ append-nil (line NO (read .number ∷ read .line ∷ []))));
+      let all = nothing-behind d tree w v in
+      wrote-refused d m s out out′ last read e z (omega (arith, all .ends, w .ends)) all;
 }
 
 pub accepted-left : (m : MoveTable) (s : List ℕ) {out out₁ tree : List ℕ} {r : Progress} {o : ReadingOutcome} → reading s ≡ o → PutsBeforeCode (λ d. WroteKey d m o out) tree out₁ r

@@ -52,6 +52,10 @@ no-lines d tree nodes e = rw e (go (treeOf []) refl)
     go none q = rw q
     go (some t) q = let I = tree-of-sound [] t q in absurd (omega (arith, tree-length I, size-positive (I .tree)))
 
+-- and where they follow, nothing does
+pub nothing-behind : (d : Device) (tree : List ℕ) {out out₁ out₂ xs : List ℕ} {at next last : ℕ} → Wrote out at out₁ next xs → Wrote out₁ next out₂ last (codeLines d (take 0 tree)) → Wrote out at out₂ last xs
+nothing-behind d tree {out} {out₁} {out₂} {xs} w v = wrote-as (wrote-then w v) (ap (λ (l : List ℕ). xs ++ l) (no-lines d tree 0 refl) ∙ append-nil xs)
+
 -- where a tree's list is copied to the front of an array, the array's first entries are the list
 pub copied : {source old new : List ℕ} {next : ℕ} {u : Tree} (nodes : ℕ) → IsList source u → nodes ≡ size u → mostNodes ≤ length old → Wrote old 0 new next source → IsList (take nodes new) u
 copied {source} {old} {new} {next} {u} nodes w e full c =
@@ -182,9 +186,7 @@ plain-left e d w = record { whole = λ out′ last v. finished-plain d (w .most)
 
 pub never-left : {u : Tree} {marks out out₁ : List ℕ} {at next : ℕ} (tree : List ℕ) → 1 ≤ length marks → CannotBeGathered (isIn marks) u × (gatheredBy u marks ≡ none)
     → Wrote out at out₁ next (line HELD (19 ∷ [])) → (d : Device) → AllButCode d (Finished d u marks out at) tree 0 out₁ next
-never-left tree k C w d = record {
-  whole = λ out′ last v. finished-never d k C (wrote-as (wrote-then w v) (ap (λ (l : List ℕ). line HELD (19 ∷ []) ++ l) (no-lines d tree 0 refl) ∙ append-nil (line HELD (19 ∷ []))));
-}
+never-left tree k C w d = record { whole = λ out′ last v. finished-never d k C (nothing-behind d tree w v) }
 
 pub held-left : {u : Tree} {marks old new out out₁ tree : List ℕ} {count holder at next : ℕ} (D : NamedTo u marks old new count holder) (run : Run)
     → run ≡ runOf (treeOf (take count new)) holder → 1 ≤ length marks → Wrote out at out₁ next (line HELD (0 ∷ run .first ∷ run .count ∷ [])) → IsList (take count tree) (D .to .result)

@@ -56,7 +56,7 @@ fn write_leaf(group: u16, free: u32, out: &mut [u16], at: usize) -> u16
 }
 
 // Writes the code of the node at `end` from index `at` on, while no operand waits where `free` says, and returns the register where its
-// result waits. A leaf that comes second, as most do, takes no call of its own.
+// result waits. A leaf that comes second takes no call of its own; one comes first only before another leaf.
 fn write_node(
     tree: &[u16],
     starts: &[u16; tree::MOST_NODES],
