@@ -64,7 +64,7 @@ fn form_of(i: usize) -> Form
 }
 
 // Whether the form only drops its variable.
-pub fn is_drop(form: Form) -> bool
+fn is_drop(form: Form) -> bool
     ensures { λ r. ⌜ r ≡ isDrop form ⌝ }
 {
     match form {

@@ -65,7 +65,8 @@ write-lamps-requires : tie.Need-write-lamps-requires
 write-lamps-requires c κs =
     let start = c .before .before .before in
     let F = right start in
-    (split start .can, F .count-right, F .patch-right, F .long)
+    let C = split start .can in
+    (record { low = C .low; high = C .high; right = C .right; inside = omega (arith, C .inside) }, F .count-right, F .patch-right, F .long)
 
 same-length-2 : tie.Need-same-length-2
 same-length-2 c = search needs
