@@ -50,7 +50,7 @@ use Rattle.key.specs.Demand.{Demand3}
 use Rattle.key.specs.Call.{KeyOf, KeyWith}
 use Rattle.key.specs.Alike.{SameLines}
 use Rattle.key.proofs.AlikeLaws.{two-keys, other-key}
-use Rattle.claims.specs.Request8.{KeyGiven, joined, Request8}
+use Rattle.claims.specs.Request8.{KeyGiven, joined, unused, Request8}
 
 -- ---- a refusal's number, from a contract by the first fault: it is that fault's
 by-fault : (a : Answer) (fault : ℕ) (values : List ℕ) (n : ℕ) → a ≡ answerBy fault (values) → (n ≡ 0 → ⊥) → Exactly (a ≡ refusedWith n) (fault ≡ n)
@@ -167,10 +167,10 @@ otherwise-alike d e (some bytes) sheet k K = go (table.loading bytes) refl K
     go (table.refused number line) q K = (refusal number line, refl, rw K (refl, refl))
     go (table.loaded ps) q K = other-key d e (loaded-right bytes ps q) (reading sheet) k K
 
-printed : (i : Instruction) → (unused : ℕ) × (drop 1 (numbers i) ≡ olderRow i .numbers ++ replicate unused 0)
-printed (load target group) = (1, refl)
-printed (change o first second) = (1, refl)
-printed (show register) = (2, refl)
+printed : (i : Instruction) → drop 1 (numbers i) ≡ olderRow i .numbers ++ replicate (unused i) 0
+printed (load target group) = refl
+printed (change o first second) = refl
+printed (show register) = refl
 
 four : (i : Instruction) → length (numbers i) ≡ 4
 four (load target group) = refl
@@ -197,6 +197,7 @@ request-8 = record {
   shown = λ t. (partCode olderPlayer [] t .own, partCode olderPlayer [] t .register, refl);
   answer = older-selects;
   four = four;
+  kind-5 = λ register. refl;
   else-23 = λ code patch lamps long n r after P. else-23 code patch lamps long r after P n;
   up-to = λ t h. (older-length t, omega (arith, older-length t), omega (arith, older-length t, numbers-length (codeOn olderPlayer t)));
   follows-20 = follows-20;
@@ -208,7 +209,7 @@ request-8 = record {
   otherwise-alike = otherwise-alike;
   printed = printed;
   thirteen = thirteen-suffice olderPlayer olderEffect older-acts;
-  light-alike = λ m sheet st e k l K L. two-keys Newer Older m m st k l (rw e at K) (rw e at L);
+  light-alike = λ m n sheet st e k l K L. two-keys Newer Older m n st k l (rw e at K) (rw e at L);
   any-device = λ d effect acts t. code-names d effect acts t;
   both-act = (newer-acts, older-acts);
   newer-code = code-is;

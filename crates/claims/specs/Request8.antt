@@ -49,6 +49,12 @@ KeyGiven d (some table) sheet k = KeyWith d (loading table) (reading sheet) k
 abbrev pub joined : Operator → (first second : PartCode Instruction) (left right : ℕ) → PartCode Instruction
 joined o x y l r = record { own = x .own ++ (y .own ++ (change (operation o) l r ∷ [])); register = l }
 
+-- how many of an instruction's four numbers are unused
+abbrev pub unused : Instruction → ℕ
+unused (load target group) = 1
+unused (change o first second) = 1
+unused (show register) = 2
+
 pub record Request8 : Type 1 where
   -- "Rental stock has a player whose ADD, CUT and BOTH name two registers: the first is changed by the second."
   pub changed : (rig : Rig) (o : Operation) (first second : ℕ) (is : List Instruction) (R : Registers)
@@ -62,6 +68,7 @@ pub record Request8 : Type 1 where
   -- "Its instructions too are four numbers, unused ones 0, and SHOW, kind 5, stands last and there only, else 23.": of a code that is not
   -- refused before, whatever `play` answers and leaves
   pub four : (i : Instruction) → length (numbers i) ≡ 4
+  pub kind-5 : (register : ℕ) → numbers (show register) ≡ 5 ∷ register ∷ 0 ∷ 0 ∷ []
   pub else-23 : (code patch lamps : List ℕ) → byteCount ≤ length lamps → wrongLength mostInstructions (length code) ≡ false
       → (r : Played) (after : List ℕ) → Plays code patch lamps r after → Exactly (playedSays r ≡ refusedWith 23) (IsCode code → ⊥)
   -- "With it, code is up to 8,192 instructions in a buffer of 32,768 numbers,": one for each node, and one
@@ -86,13 +93,13 @@ pub record Request8 : Type 1 where
   -- same `NO` line, or the same `LIFT` and `HELD` lines
   pub otherwise-alike : (d e : Device) (table : Option (List ℕ)) (sheet : List ℕ) (k : Key (InstructionOf d)) → KeyGiven d table sheet k
       → (l : Key (InstructionOf e)) × KeyGiven e table sheet l × SameLines k l
-  -- "prints this code without unused numbers.": behind the kind come the numbers of the line, and zeros
-  pub printed : (i : Instruction) → (unused : ℕ) × (drop 1 (numbers i) ≡ olderRow i .numbers ++ replicate unused 0)
+  -- "prints this code without unused numbers.": behind the kind come the numbers of the line and, of those that are unused, zeros
+  pub printed : (i : Instruction) → drop 1 (numbers i) ≡ olderRow i .numbers ++ replicate (unused i) 0
   -- "Thirteen registers suffice here too."
   pub thirteen : (t : Tree) → size t ≤ mostNodes → Every (Names olderEffect (λ q. q < registerCount)) (codeOn olderPlayer t)
-  -- "Both players must light alike for every accepted sheet and patch,": by any table
-  pub light-alike : (m : MoveTable) (sheet : List ℕ) (st : ReadingState) → reading sheet ≡ accepted st
-      → (k : Key (InstructionOf Newer)) (l : Key (InstructionOf Older)) → KeyOf Newer m (reading sheet) k → KeyOf Older m (reading sheet) l → Alike Newer Older k l
+  -- "Both players must light alike for every accepted sheet and patch,": by any tables, the same or not
+  pub light-alike : (m n : MoveTable) (sheet : List ℕ) (st : ReadingState) → reading sheet ≡ accepted st
+      → (k : Key (InstructionOf Newer)) (l : Key (InstructionOf Older)) → KeyOf Newer m (reading sheet) k → KeyOf Older n (reading sheet) l → Alike Newer Older k l
   -- "with one shared proof about need and not one for each device.": of any device, and both are such; 01's code is that of one of them
   pub any-device : {I : Type 0} (d : coding.Device I) (effect : I → Effect) → Acts d effect → (t : Tree) → Every (Names effect (λ q. q < need t)) (codeOn d t)
   pub both-act : Acts newerPlayer newerEffect × Acts olderPlayer olderEffect

@@ -37,7 +37,9 @@ two-keys d₁ d₂ m n st (answers lifts held is) (answers lifts′ held′ is�
     record {
       verdict = record { only = same-verdict D E; always = same-verdict E D };
       lamps = λ h patch bytes even good long r s after after′ p q.
-          D .lit h patch bytes even good long r after p .1 ∙ sym (E .lit (λ c. h (same-verdict E D c)) patch bytes even good long s after′ q .1);
+          let x = D .lit h patch bytes even good long r after p in
+          let y = E .lit (λ c. h (same-verdict E D c)) patch bytes even good long s after′ q in
+          (x .0, y .0, x .1 ∙ sym (y .1));
     }
 
 -- ---- the same lines before the code
