@@ -49,7 +49,7 @@ KeyGiven d (some table) sheet k = KeyWith d (loading table) (reading sheet) k
 abbrev pub joined : Operator → (first second : PartCode Instruction) (left right : ℕ) → PartCode Instruction
 joined o x y l r = record { own = x .own ++ (y .own ++ (change (operation o) l r ∷ [])); register = l }
 
--- how many of an instruction's four numbers are unused
+-- "four numbers, unused ones 0": how many of an instruction's are unused
 abbrev pub unused : Instruction → ℕ
 unused (load target group) = 1
 unused (change o first second) = 1
