@@ -3,12 +3,13 @@
 use mathlib.Core.Path.{_≡_, refl}
 use mathlib.Core.Bool.{Bool, true, false, cond}
 use Prim.Native.Nat.{ℕ, _+_, _^_, _≤_, _<_, max}
+use native.Mathlib.Decide.{ℕ-discrete}
 use native.Mathlib.Omega.{arith}
 use native.Mathlib.Nat.{pow-suc}
 use native.Mathlib.Numerals.{add-one}
-use lib.Dec.{T, eqb, leb}
+use lib.Dec.{T, leb}
 use lib.Pow.{pow-lt}
-use borrow.Author.Tests.{eqb-true, eqb-false, leb-true, leb-false}
+use borrow.Author.Tests.{eq-eqb, ne-eqb, leb-true, leb-false}
 use Rattle.tree.specs.Tree.{Operator, Tree, leaf, node, isGroup, size, mostNodes}
 use Rattle.code.specs.Need.{needOf, need, leftFirst, inOrder}
 
@@ -49,12 +50,12 @@ module _ {S A : Type 0} (atLeaf : S → ℕ → A) (atNode : S → Operator → 
         (on-node s o l r _ _ (either (leftFirst l r) s l r (in-order-by s l) (in-order-by s r)) (either (leftFirst l r) u r l (in-order-by u r) (in-order-by u l)))
 
 -- ---- need
-need-by : (P : ℕ → Type 0) (a b : ℕ) → (a ≡ b → P (a + 1)) → ((a ≡ b → ⊥) → P (max a b)) → P (needOf a b)
-need-by P a b same other = go (eqb a b) refl
-  where
-    go : (x : Bool) → eqb a b ≡ x → P (cond x (a + 1) (max a b))
-    go true e = same (eqb-true a b e)
-    go false e = other (eqb-false a b e)
+pub need-by : (P : ℕ → Type 0) (a b : ℕ) → (a ≡ b → P (a + 1)) → ((a ≡ b → ⊥) → P (max a b)) → P (needOf a b)
+need-by P a b same other =
+    elim (ℕ-discrete a b) [
+      | yes e ↦ let z : needOf a b ≡ a + 1 = rw (eq-eqb a b e) (omega arith) in rw z (same e)
+      | no n ↦ let z : needOf a b ≡ max a b = rw (ne-eqb a b n) (omega arith) in rw z (other n)
+    ]
 
 -- the first child's need, or one more than the second's
 pub need-node : (o : Operator) (l r : Tree) → need (node o l r) ≡ max (need (first l r)) (need (second l r) + 1)
