@@ -1,2 +1,3 @@
 pub mod Theorems
 pub mod Request8Laws
+pub mod Request9Laws

@@ -1,1 +1,2 @@
 pub mod Request8
+pub mod Request9

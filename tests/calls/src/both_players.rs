@@ -2,26 +2,17 @@
 //! the tree selects.
 
 use crate::coders::complete;
-use crate::inputs::{chain, leaves, numbers, same, MOST_LEAVES};
+use crate::inputs::{chains, code, leaves, numbers, same, MOST_LEAVES};
 use crate::players::{pairs, random_patch};
 use calls::library;
-use reference::calls::{EncodeAnswer, CODE_BUFFER, OLDER_CODE_BUFFER};
-use reference::coder::INSTRUCTION_NUMBERS;
+use reference::device::Device;
 use reference::player::{index, lamp_bytes, LAMP_BYTES};
 use reference::random::Random;
 use reference::report::Report;
 use reference::shape::{some_groups, Operators, Shape};
-use reference::tree::{groups, select, DIFFERENCE, INTERSECTION, UNION};
+use reference::tree::{groups, select};
 
 const PATCHES: usize = 3;
-
-/// The code that a call writes.
-fn code(call: fn(&[u16], &mut [u16]) -> EncodeAnswer, buffer: usize, tree: &[u16]) -> Vec<u16> {
-    let mut out = vec![0; buffer];
-    let [_, count] = call(tree, &mut out);
-    out.truncate(count as usize * INSTRUCTION_NUMBERS);
-    out
-}
 
 /// The number and the bytes of a play.
 fn played(call: fn(&[u16], &[u16], &mut [u8]) -> u16, code: &[u16], patch: &[u16]) -> (u16, Vec<u8>) {
@@ -30,8 +21,7 @@ fn played(call: fn(&[u16], &[u16], &mut [u8]) -> u16, code: &[u16], patch: &[u16
 }
 
 fn alike(name: &str, tree: &[u16], random: &mut Random, report: &mut Report) {
-    let newer = code(library::encode, CODE_BUFFER, tree);
-    let older = code(library::older_encode, OLDER_CODE_BUFFER, tree);
+    let (newer, older) = (code(Device::Newer, tree), code(Device::Older, tree));
     for _ in 0..PATCHES {
         let patch = random_patch(pairs(random), &groups(tree), random);
         let contents = index(&patch);
@@ -54,10 +44,6 @@ pub fn run(report: &mut Report) {
         let tree = Shape::any(Operators::All, &mut random).tree(leaves, &groups, &mut random);
         alike(name, &tree, &mut random, report);
     }
-    for operator in [UNION, DIFFERENCE, INTERSECTION] {
-        for to_the_left in [false, true] {
-            alike("chain", &chain(operator, to_the_left), &mut random, report);
-        }
-    }
+    chains().for_each(|tree| alike("chain", &tree, &mut random, report));
     alike("complete tree", &complete(MOST_LEAVES), &mut random, report);
 }

@@ -1,9 +1,13 @@
-//! Random arguments, buffers and what is saved of a failing call.
+//! Random arguments, buffers, the library's code and what is saved of a failing call.
 
+use calls::library;
+use reference::calls::OLDER_CODE_BUFFER;
+use reference::coder::INSTRUCTION_NUMBERS;
+use reference::device::Device;
 use reference::random::Random;
 use reference::report::Report;
 use reference::shape::{edge_number, some_groups, spread_groups, Operators, Shape};
-use reference::tree::{without_intersection, LAST_GROUP, MAXIMUM_NODES};
+use reference::tree::{without_intersection, DIFFERENCE, INTERSECTION, LAST_GROUP, MAXIMUM_NODES, UNION};
 
 /// The leaves of a tree of the most nodes.
 pub const MOST_LEAVES: usize = MAXIMUM_NODES.div_ceil(2);
@@ -47,6 +51,23 @@ pub fn chain(operator: u16, to_the_left: bool) -> Vec<u16> {
     } else {
         leaves.chain(vec![operator; MOST_LEAVES - 1]).collect()
     }
+}
+
+/// Such a chain of each operator to either side.
+pub fn chains() -> impl Iterator<Item = Vec<u16>> {
+    let operators = [UNION, DIFFERENCE, INTERSECTION].into_iter();
+    operators.flat_map(|operator| [false, true].map(|to_the_left| chain(operator, to_the_left)))
+}
+
+/// The library's code of a tree for this player.
+pub fn code(device: Device, tree: &[u16]) -> Vec<u16> {
+    let mut out = vec![0; OLDER_CODE_BUFFER];
+    let [_, count] = match device {
+        Device::Newer => library::encode(tree, &mut out),
+        Device::Older => library::older_encode(tree, &mut out),
+    };
+    out.truncate(count as usize * INSTRUCTION_NUMBERS);
+    out
 }
 
 /// A list that may not be a tree any more.

@@ -15,6 +15,7 @@ mod older_encode_tests;
 mod older_play_tests;
 mod play_tests;
 mod players;
+mod register_tests;
 mod school_lifts;
 mod school_tables;
 
@@ -70,7 +71,7 @@ fn main() -> ExitCode {
         return ExitCode::FAILURE;
     };
     let mut report = Report::new(PathBuf::from(target));
-    let tests: [(&str, fn(&mut Report)); 11] = [
+    let tests: [(&str, fn(&mut Report)); 12] = [
         ("lift", lift_tests::run),
         ("lift about I", intersection_lifts::run),
         ("lift by a school's table", school_lifts::run),
@@ -82,6 +83,7 @@ fn main() -> ExitCode {
         ("older encode", older_encode_tests::run),
         ("older play", older_play_tests::run),
         ("both players", both_players::run),
+        ("registers", register_tests::run),
     ];
     for (name, run) in tests {
         run(&mut report);
@@ -90,6 +92,7 @@ fn main() -> ExitCode {
     report.categories(&least_counts());
     report.categories_met(&school_lifts::least_counts());
     report.categories_met(&school_tables::least_counts());
+    report.categories_met(&register_tests::least_counts());
     if report.finish("calls") {
         ExitCode::SUCCESS
     } else {

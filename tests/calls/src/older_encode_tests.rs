@@ -2,7 +2,7 @@
 //! request 8 for every instruction.
 
 use crate::coders::{complete, Coder, Input};
-use crate::inputs::{chain, same, tree, MOST_LEAVES};
+use crate::inputs::{chains, code, same, tree, MOST_LEAVES};
 use calls::library;
 use reference::calls::{older_encode_call, CODE_BUFFER, OLDER_CODE_BUFFER};
 use reference::check::ensure;
@@ -89,14 +89,11 @@ fn nodes(code: &[u16]) -> Vec<(u16, u16)> {
 /// The library's code for the older player follows the rule, computes the tree, and has its nodes in the order of the
 /// library's other code.
 fn rule(tree: &[u16]) -> Result<(), String> {
-    let (mut out, mut older_out) = (vec![0; CODE_BUFFER], vec![0; OLDER_CODE_BUFFER]);
-    let ([_, count], [_, older_count]) = (library::encode(tree, &mut out), library::older_encode(tree, &mut older_out));
-    same("count", &older_count, &(count + 1))?;
-    out.truncate(count as usize * INSTRUCTION_NUMBERS);
-    older_out.truncate(older_count as usize * INSTRUCTION_NUMBERS);
-    by_rule(&older_out)?;
-    ensure(decode(Device::Older, &older_out).as_deref() == Some(tree), "the code does not compute the tree")?;
-    ensure(nodes(&older_out)[..count as usize] == nodes(&out), "the nodes come in another order")
+    let (newer, older) = (code(Device::Newer, tree), code(Device::Older, tree));
+    same("length", &older.len(), &(newer.len() + INSTRUCTION_NUMBERS))?;
+    by_rule(&older)?;
+    ensure(decode(Device::Older, &older).as_deref() == Some(tree), "the code does not compute the tree")?;
+    ensure(nodes(&older[..newer.len()]) == nodes(&newer), "the nodes come in another order")
 }
 
 fn rules(report: &mut Report) {
@@ -109,11 +106,7 @@ fn rules(report: &mut Report) {
         let tree = shape.tree(MOST_LEAVES, &groups, &mut random);
         report.test("older encode, the rule, 8,191 nodes", rule(&tree));
     }
-    for operator in [UNION, DIFFERENCE, INTERSECTION] {
-        for to_the_left in [false, true] {
-            report.test("older encode, the rule, chain", rule(&chain(operator, to_the_left)));
-        }
-    }
+    chains().for_each(|tree| report.test("older encode, the rule, chain", rule(&tree)));
     report.test("older encode, the rule, complete tree", rule(&complete(MOST_LEAVES)));
 }
 

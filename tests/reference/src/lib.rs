@@ -23,6 +23,7 @@ pub mod player;
 pub mod program;
 pub mod random;
 pub mod refusal;
+pub mod registers;
 pub mod report;
 pub mod shape;
 pub mod sheet;
