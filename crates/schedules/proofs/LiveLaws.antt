@@ -79,17 +79,17 @@ module _ (done : ℕ → ℕ → ℕ) (stays : (m n p : ℕ) → m ≤ n → don
     pub early : done moment p ≡ 0
 
   -- of a part that is no leaf, while its root is not done
-  unfoldable pub Below : Tree → ℕ → Type 0
-  Below (leaf g h) i = Unit {0}
-  Below (node o l r) i = Peak (root (node o l r) i) (node o l r) i
+  unfoldable pub PartPeak : Tree → ℕ → Type 0
+  PartPeak (leaf g h) i = Unit {0}
+  PartPeak (node o l r) i = Peak (root (node o l r) i) (node o l r) i
 
-  peak-child : (u : Tree) (i p : ℕ) → Sooner (root u i) p → Below u i → Peak p u i
-  unfolding live need Below
+  peak-child : (u : Tree) (i p : ℕ) → Sooner (root u i) p → PartPeak u i → Peak p u i
+  unfolding live need PartPeak
   peak-child (leaf g h) i p s x = record { moment = s .moment; early = s .early; enough = omega (arith, s .own) }
   peak-child (node o l r) i p s x = record { moment = x .moment; early = omega (arith, s .always (x .moment), x .early); enough = x .enough }
 
-  pub peaks : (t : Tree) → OfChildren t Sooner → (u : Tree) (i : ℕ) → At t u i → Below u i
-  unfolding Below
+  pub peaks : (t : Tree) → OfChildren t Sooner → (u : Tree) (i : ℕ) → At t u i → PartPeak u i
+  unfolding PartPeak
   peaks t sooner (leaf g h) i a = tt
   peaks t sooner (node o l r) i a =
       let p : ℕ = root (node o l r) i in

@@ -17,7 +17,7 @@ use Rattle.code.proofs.CodeLaws.{every-implies}
 use Rattle.schedules.specs.Schedules.{Step, children, Contents, nothing, Stands, WorksOut, AllWorkOut, times, Schedule, registers, different, NeedsRegisters}
 use Rattle.schedules.proofs.PartLaws.{root, at-whole, at-most, Child, of-children}
 use Rattle.schedules.proofs.StepLaws.{no-some, every-in, after, times-append, work-later, effects, listed-later, listed-own, own-step, was-put, child-stands}
-use Rattle.schedules.proofs.LiveLaws.{Sooner, Below, peaks}
+use Rattle.schedules.proofs.LiveLaws.{Sooner, PartPeak, peaks}
 use Rattle.schedules.proofs.CountLaws.{live-most}
 
 in-some : (xs : List ℕ) (x : ℕ) → isIn xs x ≡ true → 0 < length xs
@@ -58,9 +58,9 @@ module _ {t : Tree} {steps : List Step} (S : Schedule t steps) where
       let e : m + (n - m) ≡ n = omega arith in
       omega (arith, ap (times p) (rw e at (take-add m (n - m) steps)), times-append p (take m steps) (take (n - m) (drop m steps)))
 
-  both-ways : (m p : ℕ) → p < size t → done m p + times p (drop m steps) ≡ 1
+  once-parted : (m p : ℕ) → p < size t → done m p + times p (drop m steps) ≡ 1
   unfolding done
-  both-ways m p h = omega (arith, times-append p (take m steps) (drop m steps), ap (times p) (take-append-drop m steps), S .once p h)
+  once-parted m p h = omega (arith, times-append p (take m steps) (drop m steps), ap (times p) (take-append-drop m steps), S .once p h)
 
   later : (m : ℕ) → AllWorkOut t (contents m) (drop m steps)
   unfolding contents
@@ -75,19 +75,19 @@ module _ {t : Tree} {steps : List Step} (S : Schedule t steps) where
       let before : take n steps ≡ O .before = ap (take n) (O .whole) ∙ take-at (O .before) (O .step ∷ O .behind) n refl in
       let early : done n p ≡ 0 = ap (times p) before ∙ O .first in
       let child = every-in (λ c. 0 < times c (O .before)) (children t p) (children-first (O .before) (O .step) (O .behind) (O .whole) p (k .most) (O .own)) c (k .listed) in
-      let own : done n c ≡ 1 = omega (arith, ap (times c) before, both-ways n c (omega (arith, k .sooner, k .most))) in
+      let own : done n c ≡ 1 = omega (arith, ap (times c) before, once-parted n c (omega (arith, k .sooner, k .most))) in
       record {
-        always = λ m. elim (decLe m n) [ yes e ↦ omega (arith, stays m n p e) | no e ↦ omega (arith, stays n m c (omega arith), both-ways m p (k .most)) ];
+        always = λ m. elim (decLe m n) [ yes e ↦ omega (arith, stays m n p e) | no e ↦ omega (arith, stays n m c (omega arith), once-parted m p (k .most)) ];
         moment = n;
         own = own;
         early = early;
       }
 
   -- ---- a node that is done stands in a register, as long as its parent is not
-  waits : (m c p : ℕ) → Child t c p → 0 < done m c - done m p → Stands (contents m) named c
-  waits m c p k h =
+  done-stands : (m c p : ℕ) → Child t c p → 0 < done m c - done m p → Stands (contents m) named c
+  done-stands m c p k h =
       let most : c < size t = omega (arith, k .sooner, k .most) in
-      let F = child-stands k (drop m steps) (contents m) (later m) (omega (arith, both-ways m p (k .most), both-ways m c most)) (omega (arith, both-ways m c most)) in
+      let F = child-stands k (drop m steps) (contents m) (later m) (omega (arith, once-parted m p (k .most), once-parted m c most)) (omega (arith, once-parted m c most)) in
       record { register = F .register; listed = is-named (take m steps) (drop m steps) (sym (take-append-drop m steps)) (F .register) (F .listed); holds = F .holds }
 
   -- ---- a register is named
@@ -100,13 +100,13 @@ module _ {t : Tree} {steps : List Step} (S : Schedule t steps) where
 
 -- ---- every such code names as many different registers as the tree needs
 least : (t : Tree) (steps : List Step) → Schedule t steps → need t ≤ different (effects steps)
-unfolding need Below
+unfolding need PartPeak
 least (leaf g h) steps S = some-named S
 least (node o l r) steps S =
     let t : Tree = node o l r in
     let K = peaks (done S) (stays S) t (of-children t _ (sooner S)) t 0 (at-whole t) in
     let m : ℕ = K .moment in
-    omega (arith, K .enough, live-most (contents S m) t (done S m) (named S) (λ p h. omega (arith, both-ways S m p h)) (of-children t _ (waits S m)) (λ h. absurd (omega (arith, K .early))))
+    omega (arith, K .enough, live-most (contents S m) t (done S m) (named S) (λ p h. omega (arith, once-parted S m p h)) (of-children t _ (done-stands S m)) (λ h. absurd (omega (arith, K .early))))
 
 pub least-need : (t : Tree) → NeedsRegisters t (need t)
 least-need t es K = omega (arith, least t (K .steps) (K .schedule), ap different (K .same))
