@@ -73,7 +73,7 @@ pub fn number(bytes: &[u8]) -> u16
 }
 
 // Writes one byte into `out` at index `at`, and returns the index after it.
-fn put_byte(b: u8, out: &mut [u8], at: usize) -> usize
+pub fn put_byte(b: u8, out: &mut [u8], at: usize) -> usize
     requires { ⌜ at + 1 ≤ length (now out) ⌝ }
     ensures { λ r. ⌜ Wrote (now (out .entry)) at (now (out .exit)) r (b ∷ []) ⌝ }
 {
@@ -97,7 +97,7 @@ pub fn put_bytes(source: &[u8], out: &mut [u8], at: usize) -> usize
 }
 
 // Writes a number's decimal digits.
-fn put_decimal(n: usize, out: &mut [u8], at: usize) -> usize
+pub fn put_decimal(n: usize, out: &mut [u8], at: usize) -> usize
     requires { ⌜ at + length (digits n) ≤ length (now out) ⌝ }
     ensures { λ r. ⌜ Wrote (now (out .entry)) at (now (out .exit)) r (digits n) ⌝ }
 {
