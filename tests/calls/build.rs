@@ -1,7 +1,8 @@
 //! Links the static library that the environment names.
 
 /// Calls that came with a request, and what is set where the library has them. One without them can still be timed.
-const LATER_CALLS: [(&str, &str); 2] = [("lift_with_call", "has_lift_with"), ("older_play_call", "has_older")];
+const LATER_CALLS: [(&str, &str); 3] =
+    [("lift_with_call", "has_lift_with"), ("older_play_call", "has_older"), ("index_of_call", "has_questions")];
 
 fn main() {
     println!("cargo:rerun-if-env-changed=STATIC_LIBRARY");

@@ -1,2 +1,3 @@
 pub mod Request8
 pub mod Request9
+pub mod Request10

@@ -2,6 +2,7 @@
 use mathlib.Core.Path.{_≡_}
 use mathlib.Core.Bool.{cond, _&&_}
 use mathlib.Core.List.{List, [], _∷_}
+use mathlib.Core.Option.{Option·map}
 use Prim.Native.Nat.{ℕ, _%_}
 use lib.Dec.{eqb}
 use lib.ListN.{length, getD}
@@ -16,6 +17,7 @@ use Rattle.lift.specs.Answer.{resultSays, liftBuffer}
 use Rattle.gather.specs.Answer.{gatheringSays, Gathers}
 use Rattle.gather.specs.declared.Gathering.{Gathering}
 use Rattle.coder.specs.Coding.{encodeFault, codeOfList, bufferAfter}
+use Rattle.questions.specs.Answer.{treeAt, valueOr30, inArray}
 use Rattle.player.specs.Instructions.{Lamps}
 use Rattle.player.specs.Playing.{bytesBy}
 
@@ -62,3 +64,8 @@ pub record EncodeCall {I : Type 0} (least : ℕ) (code : Tree → List I) (numbe
 pub record PlayCall (fault : ℕ) (lit : Lamps) (lamps lamps′ : List ℕ) (number : ℕ) : Type 0 where
   pub numbered : number ≡ fault
   pub written : lamps′ ≡ bytesBy fault lit lamps
+
+-- the tree with an index: its entries with 0 behind them at the array's front, as far as it has places, and how many they are
+pub record TreeCall (index : ℕ) (entries entries′ answer answer′ : List ℕ) : Type 0 where
+  pub holds : entries′ ≡ sets entries 0 (inArray (treeAt index))
+  pub stores : answer′ ≡ withAnswer (valueOr30 (Option·map length (treeAt index))) answer

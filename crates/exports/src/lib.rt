@@ -20,12 +20,14 @@ ghost use Rattle.player.specs.Playing as newer-player;
 ghost use Rattle.player.specs.Playing.{playedSays};
 ghost use Rattle.older_player.specs.Instructions as older;
 ghost use Rattle.older_player.specs.Playing as older-player;
-ghost use Rattle.exports.specs.Storing.{answerNumber, withAnswer, tableFrom, LiftCall, GatherCall, EncodeCall, PlayCall};
+ghost use Rattle.questions.specs.Answer.{replySays, indexOf, valueOr30};
+ghost use Rattle.exports.specs.Storing.{answerNumber, withAnswer, tableFrom, LiftCall, GatherCall, EncodeCall, PlayCall, TreeCall};
 use coder::Coded;
 use gather::Gathering;
 use lift::Lifted;
 use move_table::LoadedTable;
 use player::Played;
+use questions::Reply;
 
 // Stores a number of an answer, where the array has that place.
 fn store(answer: &mut [u32], i: usize, value: usize)
@@ -182,4 +184,55 @@ pub extern "C" fn older_play_call(code: &[u16], patch: &[u16], lamps: &mut [u8])
 {
     let played = older_player::play(code, patch, lamps);
     number_of(played)
+}
+
+// Stores a number of a list, where the array has that place.
+fn store_entry(out: &mut [u16], i: usize, x: u16)
+    ensures { λ r. ⌜ now (out .exit) ≡ set (now (out .entry)) i x ⌝ }
+{
+    if i < out.len() {
+        out[i] = x;
+    }
+}
+
+// Stores a list's numbers from the front of an array, as far as it has places.
+fn store_list(list: &[u16], out: &mut [u16])
+    ensures { λ r. ⌜ now (out .exit) ≡ sets (now (out .entry)) 0 (now (list .entry)) ⌝ }
+{
+    let mut i = 0;
+    while i < list.len() {
+        store_entry(out, i, list[i]);
+        i += 1;
+    }
+}
+
+// Stores the answer of a call of `questions`: number, count of entries or index.
+fn store_reply(reply: Reply, answer: &mut [u32])
+    ensures { λ r. ⌜ now (answer .exit) ≡ withAnswer (replySays reply) (now (answer .entry)) ⌝ }
+{
+    match reply {
+        Reply::Done(value) => store_all(answer, 0, value, 0, 0),
+        Reply::Refused(number) => store_all(answer, number as usize, 0, 0, 0),
+    }
+}
+
+// Number, count of entries; the entries go into the array lent for them, as far as it has places.
+#[no_mangle]
+pub extern "C" fn tree_at_call(index: usize, entries: &mut [u16], answer: &mut [u32])
+    ensures { λ r. ⌜ TreeCall index (now (entries .entry)) (now (entries .exit)) (now (answer .entry)) (now (answer .exit)) ⌝ }
+{
+    let question = questions::tree_at(index);
+    let list = question.entries;
+    store_list(&list, entries);
+    let reply = question.reply;
+    store_reply(reply, answer);
+}
+
+// Number, index.
+#[no_mangle]
+pub extern "C" fn index_of_call(list: &[u16], answer: &mut [u32])
+    ensures { λ r. ⌜ now (answer .exit) ≡ withAnswer (valueOr30 (indexOf (now (list .entry)))) (now (answer .entry)) ⌝ }
+{
+    let reply = questions::index_of(list);
+    store_reply(reply, answer);
 }

@@ -1,10 +1,12 @@
 //! The verified program and calls beside the reference: medians of the same inputs, their ratio and its bar.
 //! The two take turns. Buffers are not cleared between calls.
 //!
-//! bench KEY_PROGRAM OLDER_KEY_PROGRAM MARK_PROGRAM    the reference's own programs are looked for beside this one
+//! bench KEY_PROGRAM OLDER_KEY_PROGRAM MARK_PROGRAM QUESTIONS_PROGRAM
+//!   the reference's own programs are looked for beside this one
 
 mod bench_marks;
 mod bench_older;
+mod bench_questions;
 mod bench_schools;
 
 use calls::library;
@@ -33,6 +35,9 @@ const LARGE_GROUPS_BAR: f64 = 1.2;
 const INTERSECTION_BAR: f64 = 1.2;
 const SCHOOL_BAR: f64 = 1.2;
 const OLDER_BAR: f64 = 1.0;
+const TREE_AT_BAR: f64 = 4.0;
+const INDEX_OF_BAR: f64 = 2.5;
+const QUESTIONS_BAR: f64 = 1.3;
 const NAME_WIDTH: usize = 56;
 const KEY_BAR: Duration = Duration::from_millis(20);
 const SHEET_LIFTS: usize = 50;
@@ -289,8 +294,8 @@ fn bench_both(random: &mut Random) {
 
 fn main() -> ExitCode {
     let arguments: Vec<String> = std::env::args().skip(1).collect();
-    let [key_program, older_key_program, mark_program] = &arguments[..] else {
-        eprintln!("usage: bench KEY_PROGRAM OLDER_KEY_PROGRAM MARK_PROGRAM");
+    let [key_program, older_key_program, mark_program, questions_program] = &arguments[..] else {
+        eprintln!("usage: bench KEY_PROGRAM OLDER_KEY_PROGRAM MARK_PROGRAM QUESTIONS_PROGRAM");
         return ExitCode::FAILURE;
     };
     let this = std::env::current_exe().expect("this program's path");
@@ -307,6 +312,8 @@ fn main() -> ExitCode {
     bench_large_groups(&mut random());
     bench_both(&mut random());
     bench_older::bench_code(&mut random());
+    bench_questions::bench_calls();
     bench_marks::bench_marks(Path::new(mark_program), &this.with_file_name("reference_mark"), &mut random());
+    bench_questions::bench_list(Path::new(questions_program), &this.with_file_name("reference_questions"));
     ExitCode::SUCCESS
 }

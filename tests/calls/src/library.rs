@@ -1,6 +1,6 @@
 //! The boundary: a slice passes as a pointer and then a length, a number as itself.
 
-use reference::calls::{EncodeAnswer, GatherAnswer, LiftAnswer};
+use reference::calls::{EncodeAnswer, GatherAnswer, IndexOfAnswer, LiftAnswer, TreeAtAnswer};
 use reference::table::School;
 
 mod exported {
@@ -74,6 +74,16 @@ mod exported {
             lamps: *mut u8,
             lamps_length: usize,
         ) -> u16;
+        #[cfg(has_questions)]
+        pub fn tree_at_call(
+            index: usize,
+            entries: *mut u16,
+            entries_length: usize,
+            answer: *mut u32,
+            answer_length: usize,
+        );
+        #[cfg(has_questions)]
+        pub fn index_of_call(list: *const u16, list_length: usize, answer: *mut u32, answer_length: usize);
     }
 }
 
@@ -222,4 +232,36 @@ pub fn older_encode(_: &[u16], _: &mut [u16]) -> EncodeAnswer {
 #[cfg(not(has_older))]
 pub fn older_play(_: &[u16], _: &[u16], _: &mut [u8]) -> u16 {
     u16::MAX
+}
+
+/// Whether the library has `tree_at_call` and `index_of_call`.
+pub const HAS_QUESTIONS: bool = cfg!(has_questions);
+
+#[cfg(has_questions)]
+pub fn tree_at(index: usize, entries: &mut [u16]) -> TreeAtAnswer {
+    let mut answer = [UNWRITTEN; 2];
+    unsafe {
+        exported::tree_at_call(index, entries.as_mut_ptr(), entries.len(), answer.as_mut_ptr(), answer.len());
+    }
+    answer
+}
+
+#[cfg(has_questions)]
+pub fn index_of(list: &[u16]) -> IndexOfAnswer {
+    let mut answer = [UNWRITTEN; 2];
+    unsafe {
+        exported::index_of_call(list.as_ptr(), list.len(), answer.as_mut_ptr(), answer.len());
+    }
+    answer
+}
+
+/// A library without the call writes nothing.
+#[cfg(not(has_questions))]
+pub fn tree_at(_: usize, _: &mut [u16]) -> TreeAtAnswer {
+    [UNWRITTEN; 2]
+}
+
+#[cfg(not(has_questions))]
+pub fn index_of(_: &[u16]) -> IndexOfAnswer {
+    [UNWRITTEN; 2]
 }

@@ -15,6 +15,8 @@ mod older_encode_tests;
 mod older_play_tests;
 mod play_tests;
 mod players;
+mod question_lists;
+mod question_tests;
 mod register_tests;
 mod school_lifts;
 mod school_tables;
@@ -71,7 +73,7 @@ fn main() -> ExitCode {
         return ExitCode::FAILURE;
     };
     let mut report = Report::new(PathBuf::from(target));
-    let tests: [(&str, fn(&mut Report)); 12] = [
+    let tests: [(&str, fn(&mut Report)); 14] = [
         ("lift", lift_tests::run),
         ("lift about I", intersection_lifts::run),
         ("lift by a school's table", school_lifts::run),
@@ -84,6 +86,8 @@ fn main() -> ExitCode {
         ("older play", older_play_tests::run),
         ("both players", both_players::run),
         ("registers", register_tests::run),
+        ("tree at", question_tests::run),
+        ("index of", question_lists::run),
     ];
     for (name, run) in tests {
         run(&mut report);
@@ -93,6 +97,8 @@ fn main() -> ExitCode {
     report.categories_met(&school_lifts::least_counts());
     report.categories_met(&school_tables::least_counts());
     report.categories_met(&register_tests::least_counts());
+    report.categories_met(&question_tests::least_counts());
+    report.categories_met(&question_lists::least_counts());
     if report.finish("calls") {
         ExitCode::SUCCESS
     } else {

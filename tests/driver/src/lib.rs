@@ -1,4 +1,4 @@
-//! The inputs of the programs `driver` (keys) and `marks`, and what the two have in common.
+//! The inputs of the programs `driver` (keys), `marks` and `questions`, and what they have in common.
 
 pub mod cases;
 pub mod damage;
@@ -10,6 +10,7 @@ pub mod marks;
 pub mod older;
 pub mod older_cases;
 pub mod program;
+pub mod questions;
 pub mod self_tests;
 pub mod sheets;
 pub mod tables;

@@ -2,7 +2,7 @@
 
 use std::io::{ErrorKind, Read, Write};
 use std::path::{Path, PathBuf};
-use std::process::{Child, Command, Stdio};
+use std::process::{Child, Command, ExitStatus, Stdio};
 use std::sync::Mutex;
 use std::time::{Duration, Instant};
 
@@ -23,8 +23,8 @@ impl Watched {
         }
     }
 
-    /// What the program prints, given these bytes as its standard input.
-    pub fn run(&self, command: &mut Command, bytes: &[u8]) -> Result<Vec<u8>, String> {
+    /// What the program prints, given these bytes as its standard input, and the status with which it ends.
+    pub fn run_to_end(&self, command: &mut Command, bytes: &[u8]) -> Result<(Vec<u8>, ExitStatus), String> {
         let spawned = command.stdin(Stdio::piped()).stdout(Stdio::piped()).spawn();
         let mut child = spawned.map_err(|error| format!("the program does not start: {error}"))?;
         let (mut input, mut output) = (child.stdin.take().unwrap(), child.stdout.take().unwrap());
@@ -41,6 +41,12 @@ impl Watched {
             Some(error) => return Err(format!("the bytes could not be written: {error}")),
         }
         read.map_err(|error| error.to_string())?;
+        Ok((printed, status))
+    }
+
+    /// What the program prints; it must end with status 0.
+    pub fn run(&self, command: &mut Command, bytes: &[u8]) -> Result<Vec<u8>, String> {
+        let (printed, status) = self.run_to_end(command, bytes)?;
         if status.success() {
             Ok(printed)
         } else {

@@ -6,6 +6,7 @@ use crate::gather::gather;
 use crate::lift::{lift_by, Lifted, Table};
 use crate::older_player::MAXIMUM_INSTRUCTIONS;
 use crate::player::{play, LAMP_BYTES};
+use crate::questions::{index_of, tree_at, MOST_ENTRIES};
 use crate::refusal::{Refusal, SHORT_CODE_BUFFER, SHORT_TREE_BUFFER, TABLE_WORD, UNDER_64_BYTES};
 use crate::table::School;
 use crate::tree::MAXIMUM_NODES;
@@ -22,6 +23,10 @@ pub type LiftAnswer = [u32; 4];
 pub type GatherAnswer = [u32; 3];
 /// Number, count of instructions; the count is 0 when refused.
 pub type EncodeAnswer = [u32; 2];
+/// Number, count of entries; the count is 0 when refused.
+pub type TreeAtAnswer = [u32; 2];
+/// Number, index; the index is 0 when refused.
+pub type IndexOfAnswer = [u32; 2];
 
 /// Writes the result of a call whose buffer must hold `least` numbers.
 fn written<T>(
@@ -117,4 +122,26 @@ pub fn play_call(code: &[u16], patch: &[u16], lamps: &mut [u8]) -> Refusal {
 
 pub fn older_play_call(code: &[u16], patch: &[u16], lamps: &mut [u8]) -> Refusal {
     played(lamps, || older_player::play(code, patch))
+}
+
+/// The tree with zeros behind it, or zeros alone when refused, goes into the first seven places, as far as there are so
+/// many.
+pub fn tree_at_call(index: usize, entries: &mut [u16]) -> TreeAtAnswer {
+    let question = tree_at(index);
+    let tree = question.unwrap_or_default();
+    let mut numbers = [0; MOST_ENTRIES];
+    numbers[..tree.len()].copy_from_slice(tree);
+    let places = entries.len().min(MOST_ENTRIES);
+    entries[..places].copy_from_slice(&numbers[..places]);
+    match question {
+        Ok(tree) => [0, tree.len() as u32],
+        Err(number) => [number.into(), 0],
+    }
+}
+
+pub fn index_of_call(list: &[u16]) -> IndexOfAnswer {
+    match index_of(list) {
+        Ok(index) => [0, index as u32],
+        Err(number) => [number.into(), 0],
+    }
 }

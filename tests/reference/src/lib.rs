@@ -21,6 +21,7 @@ pub mod older_player;
 pub mod older_traits;
 pub mod player;
 pub mod program;
+pub mod questions;
 pub mod random;
 pub mod refusal;
 pub mod registers;

@@ -39,3 +39,6 @@ pub const INTERSECTION_ABOVE: Refusal = 27;
 /// 02, request 7.
 pub const TABLE_FORM: Refusal = 28;
 pub const TABLE_WORD: Refusal = 29;
+
+/// 02, request 10.
+pub const NO_QUESTION: Refusal = 30;

@@ -87,7 +87,7 @@ impl Line {
 }
 
 /// A decimal field without leading noughts, from `first` to `last`.
-fn decimal(field: &[u8], first: usize, last: usize) -> Option<usize> {
+pub fn decimal(field: &[u8], first: usize, last: usize) -> Option<usize> {
     let digits = !field.is_empty() && field.iter().all(u8::is_ascii_digit);
     if !digits || field.len() > 5 || (field[0] == b'0' && field.len() > 1) {
         return None;

@@ -123,3 +123,25 @@ pub unsafe extern "C" fn older_play_call(
     let (code, patch) = (from_raw_parts(code, code_length), from_raw_parts(patch, patch_length));
     calls::older_play_call(code, patch, from_raw_parts_mut(lamps, lamps_length))
 }
+
+/// # Safety
+/// As for `lift_call`.
+#[no_mangle]
+pub unsafe extern "C" fn tree_at_call(
+    index: usize,
+    entries: *mut u16,
+    entries_length: usize,
+    answer: *mut u32,
+    answer_length: usize,
+) {
+    let numbers = calls::tree_at_call(index, from_raw_parts_mut(entries, entries_length));
+    from_raw_parts_mut(answer, answer_length).copy_from_slice(&numbers);
+}
+
+/// # Safety
+/// As for `lift_call`.
+#[no_mangle]
+pub unsafe extern "C" fn index_of_call(list: *const u16, list_length: usize, answer: *mut u32, answer_length: usize) {
+    let numbers = calls::index_of_call(from_raw_parts(list, list_length));
+    from_raw_parts_mut(answer, answer_length).copy_from_slice(&numbers);
+}

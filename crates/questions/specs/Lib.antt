@@ -1,0 +1,4 @@
+pub mod Questions
+pub mod Answer
+pub mod Listing
+pub mod InnerCounts
