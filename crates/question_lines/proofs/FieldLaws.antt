@@ -20,7 +20,7 @@ use Rattle.text.proofs.DecimalLaws.{digits-length}
 use Rattle.text.proofs.LineLaws.{line-length}
 use Rattle.printing.specs.Key.{NO}
 use Rattle.questions.specs.Questions.{entries, questions}
-use Rattle.questions.specs.Answer.{GivesTree}
+use Rattle.questions.specs.Answer.{replySays, GivesTree}
 use Rattle.questions.specs.InnerCounts.{areEntries}
 use Rattle.questions.specs.declared.Question.{Question}
 use Rattle.questions.specs.declared.Reply.the-variants.{Done, Refused}
@@ -103,7 +103,7 @@ module _ {i : ℕ} {q : Question} {n : ℕ} (G : GivesTree i q) where
   pub tree-given : q .reply ≡ Done n → TreeGiven i n (q .entries) (take n (q .entries))
   tree-given d =
       let l = take n (q .entries) in
-      let e = tree-done G d in
+      let e = tree-done G n (ap replySays d) in
       let T = tested l (question-test l (only-questions i l (e .0))) in
       record {
         index = omega (arith, at-below questions i l (e .0), questions-count);

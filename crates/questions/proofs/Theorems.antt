@@ -14,7 +14,7 @@ use Rattle.questions.specs.Answer.{treeAt, indexOf, replySays, valueOr30
 use Rattle.questions.specs.Listing.{IsQuestion, Holds, HandsOver}
 use Rattle.questions.specs.declared.Question.{Question}
 use Rattle.questions.specs.declared.Reply.{Reply}
-use Rattle.questions.specs.declared.Reply.the-variants.{Done, Refused}
+use Rattle.questions.specs.declared.Reply.the-variants.{Refused}
 use Rattle.questions.proofs.ListLaws.{not-some, rising-at}
 use Rattle.questions.proofs.OrderLaws.{Precedes, questions-rise, precedes-asym, rising-unique}
 use Rattle.questions.proofs.TreeLaws.{only-questions, every-question}
@@ -63,20 +63,9 @@ module _ {i : ℕ} {q : Question} (G : GivesTree i q) where
       only : Option·map length (treeAt i) ≡ none → 3477 ≤ i
       only e = elim (decLe 3477 i) [ yes h ↦ h | no h ↦ (let s = tree-some i (omega arith) in not-some (sym e ∙ ap (Option·map length) (s .1))) ]
 
-  -- the index of the list handed over is the index asked for
-  pub index-of-tree : {l : List ℕ} {r : Reply} → HandsOver q l → GivesIndex l r → replySays r ≡ done (i ∷ [])
-  index-of-tree {l} {r} O I = go (treeAt i) refl (value-is (Option·map length (treeAt i)) (length l) (sym (G .says) ∙ O .count))
-    where
-      go : (o : Option (List ℕ)) → treeAt i ≡ o → Option·map length o ≡ some (length l) → replySays r ≡ done (i ∷ [])
-      go none t e = not-some e
-      go (some m) t e =
-          let n : length m ≡ length l = cc in
-          let same : m ≡ l = sym (hands-over G t .list) ∙ ap (λ (n : ℕ). take n (q .entries)) n ∙ O .list in
-          I .says ∙ ap valueOr30 (ap indexOf (sym same) ∙ index-found i m t)
-
-  -- where it is done, and where it is refused
-  pub tree-done : {n : ℕ} → q .reply ≡ Done n → (treeAt i ≡ some (take n (q .entries))) × (length (take n (q .entries)) ≡ n)
-  tree-done {n} d = go (treeAt i) refl (value-is (Option·map length (treeAt i)) n (sym (G .says) ∙ ap replySays d))
+  -- where it is done
+  pub tree-done : (n : ℕ) → replySays (q .reply) ≡ done (n ∷ []) → (treeAt i ≡ some (take n (q .entries))) × (length (take n (q .entries)) ≡ n)
+  tree-done n d = go (treeAt i) refl (value-is (Option·map length (treeAt i)) n (sym (G .says) ∙ d))
     where
       go : (o : Option (List ℕ)) → treeAt i ≡ o → Option·map length o ≡ some n → (treeAt i ≡ some (take n (q .entries))) × (length (take n (q .entries)) ≡ n)
       go none t e = not-some e
@@ -85,6 +74,11 @@ module _ {i : ℕ} {q : Question} (G : GivesTree i q) where
           let whole : take n (q .entries) ≡ l = ap (λ (n : ℕ). take n (q .entries)) (sym z) ∙ hands-over G t .list in
           (t ∙ ap some (sym whole), ap length whole ∙ z)
 
+  -- the index of the list handed over is the index asked for
+  pub index-of-tree : {l : List ℕ} {r : Reply} → HandsOver q l → GivesIndex l r → replySays r ≡ done (i ∷ [])
+  index-of-tree {l} O I = I .says ∙ ap valueOr30 (index-found i l (tree-done (length l) (O .count) .0 ∙ ap some (O .list)))
+
+  -- where it is refused
   pub tree-refused : {n : ℕ} → q .reply ≡ Refused n → (treeAt i ≡ none) × (n ≡ 30)
   tree-refused {n} d = go (treeAt i) refl (sym (G .says) ∙ ap replySays d)
     where
