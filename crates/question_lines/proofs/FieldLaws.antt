@@ -18,6 +18,7 @@ use Rattle.text.specs.Line.{tab, lineFeed, line}
 use Rattle.text.specs.Inner.{field, fieldsAfter}
 use Rattle.text.proofs.DecimalLaws.{digits-length}
 use Rattle.text.proofs.LineLaws.{line-length}
+use Rattle.sheet.specs.Form.{letterFor}
 use Rattle.printing.specs.Key.{NO}
 use Rattle.questions.specs.Questions.{entries, questions}
 use Rattle.questions.specs.Answer.{replySays, GivesTree}
@@ -32,11 +33,11 @@ use Rattle.question_lines.specs.Lines.{printedAs, fieldsOf, lineText, li
 use Rattle.question_lines.specs.InnerFields.{entriesAfter}
 
 -- ---- an entry's byte
-pub union-byte : (x : ℕ) → x ≡ sign union → 85 ∷ [] ≡ printedAs (entryOf x)
-union-byte x e = rw e (unfold entryOf in refl)
+pub union-byte : {b x : ℕ} → b ≡ letterFor union → x ≡ sign union → b ∷ [] ≡ printedAs (entryOf x)
+union-byte p e = rw (p, e) (unfold entryOf in refl)
 
-pub difference-byte : (x : ℕ) → x ≡ sign difference → 68 ∷ [] ≡ printedAs (entryOf x)
-difference-byte x e = rw e (unfold entryOf in refl)
+pub difference-byte : {b x : ℕ} → b ≡ letterFor difference → x ≡ sign difference → b ∷ [] ≡ printedAs (entryOf x)
+difference-byte p e = rw (p, e) (unfold entryOf in refl)
 
 -- what is no operator is a group of one digit
 pub record GroupByte (x : ℕ) : Type 0 where
@@ -67,11 +68,11 @@ pub after-none : (l : List ℕ) → entriesAfter (take 0 l) ≡ []
 unfolding entriesAfter
 after-none l = refl
 
-pub after-next : (l : List ℕ) (i : ℕ) (b : ℕ) → i < length l → b ∷ [] ≡ printedAs (entryOf (getD l i 0)) → entriesAfter (take i l) ++ (tab ∷ b ∷ []) ≡ entriesAfter (take (i + 1) l)
+pub after-next : (l : List ℕ) (i parting b : ℕ) → parting ≡ tab → i < length l → b ∷ [] ≡ printedAs (entryOf (getD l i 0)) → entriesAfter (take i l) ++ (parting ∷ b ∷ []) ≡ entriesAfter (take (i + 1) l)
 unfolding entriesAfter
-after-next l i b h e =
-    ap (λ (c : List ℕ). entriesAfter (take i l) ++ (tab ∷ c)) (e ∙ sym (append-nil (printedAs (entryOf (getD l i 0)))))
-    ∙ sym (rw (add-one i, take-suc l i 0 h) (after-append (take i l) (getD l i 0 ∷ [])))
+after-next l i parting b p h e =
+    rw p (ap (λ (c : List ℕ). entriesAfter (take i l) ++ (tab ∷ c)) (e ∙ sym (append-nil (printedAs (entryOf (getD l i 0)))))
+    ∙ sym (rw (add-one i, take-suc l i 0 h) (after-append (take i l) (getD l i 0 ∷ []))))
 
 -- ---- the line
 join-after : (first l : List ℕ) → join tab (fieldsOf first l) ≡ first ++ entriesAfter l

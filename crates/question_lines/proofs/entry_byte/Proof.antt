@@ -5,10 +5,10 @@ use Rattle.question_lines.proofs.entry_byte.Statement.{statement}
 use Rattle.question_lines.proofs.entry_byte.Tie as tie
 
 returns : tie.Need-returns
-returns c = union-byte (c .before .args .x) (c .if1 .taken)
+returns c = union-byte (omega arith) (c .if1 .taken)
 
 returns-2 : tie.Need-returns-2
-returns-2 c = difference-byte (c .before .before .args .x) (c .if2 .taken)
+returns-2 c = difference-byte (omega arith) (c .if2 .taken)
 
 cast-result : tie.Need-cast-result
 cast-result c = let g = group-byte (c .before .before .args .x) (c .before .before .pre) (c .before .if1 .left) (c .if2 .left) in omega arith

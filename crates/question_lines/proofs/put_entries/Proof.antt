@@ -48,7 +48,7 @@ loop-less : tie.Need-loop-less Inv-loop μ-loop
 loop-less c = search needs
 
 loop-again : tie.Need-loop-again Inv-loop μ-loop
-loop-again c = let loop = c .before .before .before .before .before .before .before .before .loop in let list = c .before .before .before .before .before .before .before .before .before .before .before .args .list .now in let W = c .before .before .put-bytes .ensures in (omega arith, omega (arith, W .ends), wrote-as (wrote-then (loop .inv .2) W) (after-next list (loop .i) (c .before .before .before .before .before .entry-byte .result) (c .before .before .before .before .before .before .before .loop-test .taken) (c .before .before .before .before .before .entry-byte .ensures)))
+loop-again c = let loop = c .before .before .before .before .before .before .before .before .loop in let list = c .before .before .before .before .before .before .before .before .before .before .before .args .list .now in let W = c .before .before .put-bytes .ensures in (omega arith, omega (arith, W .ends), wrote-as (wrote-then (loop .inv .2) W) (after-next list (loop .i) _ (c .before .before .before .before .before .entry-byte .result) (omega arith) (c .before .before .before .before .before .before .before .loop-test .taken) (c .before .before .before .before .before .entry-byte .ensures)))
 
 same-length : tie.Need-same-length Inv-loop μ-loop
 same-length c = c .before .loop .inv .2 .same
