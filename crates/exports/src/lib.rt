@@ -62,10 +62,16 @@ fn store_lift(lifted: Lifted, answer: &mut [u32])
 
 // Number, length, position, looks.
 #[unsafe(no_mangle)]
-pub extern "C" fn lift_call(tree: &[u16], position: usize, out: &mut [u16], answer: &mut [u32])
-    ensures { LiftCall (lift_of ours (length out.old) tree.now position) out.old out.new answer.old answer.new }
+pub extern "C" fn lift_call(
+    tree: &[u16],
+    position: usize,
+    levels: usize,
+    out: &mut [u16],
+    answer: &mut [u32],
+)
+    ensures { LiftCall (lift_of ours (length out.old) tree.now position levels) out.old out.new answer.old answer.new }
 {
-    let lifted = lift::lift(tree, position, out);
+    let lifted = lift::lift(tree, position, levels, out);
     store_lift(lifted, answer);
 }
 
@@ -94,16 +100,17 @@ fn table_from(signs: &[u8], lengths: &[u8]) -> LoadedTable
 pub extern "C" fn lift_with_call(
     tree: &[u16],
     position: usize,
+    levels: usize,
     out: &mut [u16],
     signs: &[u8],
     lengths: &[u8],
     answer: &mut [u32],
 )
-    ensures { LiftCall (lift_with (table_from signs.now lengths.now) (length out.old) tree.now position)
+    ensures { LiftCall (lift_with (table_from signs.now lengths.now) (length out.old) tree.now position levels)
         out.old out.new answer.old answer.new }
 {
     let table = table_from(signs, lengths);
-    let lifted = lift::lift_with(tree, position, out, table);
+    let lifted = lift::lift_with(tree, position, levels, out, table);
     store_lift(lifted, answer);
 }
 

@@ -33,8 +33,7 @@ use Rattle.printing.specs.Key.{NO, Key, refusal, text, lift_rows, held_rows, ins
 use Rattle.lift_lines.specs.Lifting.{tree_after, lift_answers}
 use Rattle.key.specs.Call.{key_bytes, KeyOf, KeyWith, key_says, KeyCall}
 use Rattle.key.specs.InnerKeyOf.{held_by, code_by, key_in, key_for, key_by, key_for_school, school_key_of, KeyBy}
-use Rattle.lift_lines.specs.Inner.{lift_bytes, Asked, LiftedAll}
-use Rattle.lift.specs.InnerLifts.{IsList}
+use Rattle.lift_lines.specs.Inner.{lift_bytes, IsList, Asked, LiftedAll}
 use Rattle.key.specs.Inner.{AllButCode, Markable, Finished, PutsHeld, ReadAs, WroteKey, PutsBeforeCode}
 use Rattle.lift_lines.specs.declared.Progress.{Progress}
 use Rattle.key.specs.declared.KeyAnswer.{KeyAnswer}
@@ -48,8 +47,8 @@ use Rattle.printing.specs.declared.Device.{Device}
 use Rattle.key.specs.Devices.{InstructionOf, row_for}
 
 module _ (s : List ℕ) (st : ReadingState) (e : reading s ≡ accepted st) (A : Accepted sheet_rules s st) where
-  -- at most 15,000 lifts
-  pub few_lifts : lift_bytes * length st.lifts ≤ 225000
+  -- at most 10,000 lifts
+  pub few_lifts : lift_bytes * length st.lifts ≤ 160000
   few_lifts = omega (arith, lifts_few sheet_rules s st.start st.lifts A.end A.asked, accepted_short s st e)
 
   pub asked : Asked s st.start (length st.lifts) st.lifts
@@ -96,7 +95,7 @@ pub record IsRead (s : List ℕ) (st : ReadingState) (read : Sheet) : Type 0 whe
   pub marks : take read.marked read.marks ≡ st.marks
   pub marks_long : read.marked ≤ length read.marks
   pub asks : Asked s read.start read.lifts st.lifts
-  pub few : lift_bytes * read.lifts ≤ 225000
+  pub few : lift_bytes * read.lifts ≤ 160000
 
 answer_is : (s : List ℕ) (st : ReadingState) (e : reading s ≡ accepted st) → IsRead s st (sheet_of (accepted st))
 unfolding sheet_of
@@ -126,7 +125,7 @@ module _ {s : List ℕ} {st : ReadingState} {read : Sheet} (I : IsRead s st read
   pub read_marks : {m : MoveTable} → Right m → Markable (tree_after m I.has.tree st.lifts) (take read.marked read.marks)
   read_marks R = rw I.marks (marks_left s st I.is I.has R)
 
-  pub read_most : {m : MoveTable} {tree' out out₁ : List ℕ} {r : Progress} → LiftedAll m I.has.tree st.lifts tree' r out out₁ → r.next ≤ 225000
+  pub read_most : {m : MoveTable} {tree' out out₁ : List ℕ} {r : Progress} → LiftedAll m I.has.tree st.lifts tree' r out out₁ → r.next ≤ 160000
   read_most L = omega (arith, L.most, I.few, I.asks.counted)
 
   -- the lifts' lines and, if any, the HELD line are all but the code

@@ -33,7 +33,7 @@ use Rattle.key.specs.Devices.{InstructionOf, code_for, row_for}
 use Rattle.key.proofs.DeviceLaws.{lawful}
 use Rattle.printing.specs.Key.{Held, unmarked, cannot, HELD, held_rows, instruction_rows}
 use Rattle.key.specs.InnerKeyOf.{held_as, held_in, held_by, code_by}
-use Rattle.lift.specs.InnerLifts.{IsList}
+use Rattle.lift_lines.specs.Inner.{IsList}
 use Rattle.key.specs.Inner.{held_bytes, code_bytes, code_lines, AllButCode, Markable, Ends, Finished}
 use Rattle.printing.proofs.PrintingLaws.{held_most, never_most}
 use Rattle.key.proofs.GatheringLaws.{no_fault}

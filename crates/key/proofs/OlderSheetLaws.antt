@@ -1,4 +1,4 @@
--- Request 6, of older sheets, those that the rules until then accept, with lifts of one level: their keys say nothing that keys did not say before. With
+-- Request 6, of older sheets, those that the rules until then accept: their keys say nothing that keys did not say before. With
 -- `keeps_older_key`, which says that reading comes to the same, and the contract of `gather`, whose trees have no `I` then.
 use mathlib.Core.Path.{◌≡◌, refl, sym, ap, subst, ◌∙◌}
 use mathlib.Core.List.{List, [], ◌∷◌}
@@ -16,7 +16,7 @@ use Rattle.gather.specs.InnerGathered.{gathered_by}
 use Rattle.gather.proofs.GatheredLaws.{gathered_plain}
 use Rattle.moves.specs.Moves.{ours}
 use Rattle.moves.proofs.MoveLaws.{ours_right}
-use Rattle.sheet.specs.Rules.{with_levels, two_operator_rules, sheet_rules}
+use Rattle.sheet.specs.Rules.{two_operator_rules, sheet_rules}
 use Rattle.sheet.specs.Reading.{ReadingState, accepted, read_with}
 use Rattle.sheet.proofs.RulesLaws.{stricter_accepts, third_operator}
 use Rattle.sheet.proofs.WithoutLaws.{accepted_without}
@@ -41,14 +41,14 @@ code_without u (m ∷ marks) w = go (gathered_by u (m ∷ marks)) refl
     go none e = tt
     go (some g) e = without_both g 0 (gathered_plain u (m ∷ marks) g e w)
 
-pub older_key : (s : List ℕ) (st : ReadingState) → read_with (with_levels 1 two_operator_rules) s ≡ accepted st → (key_of Newer s ≡ text instruction_row (key_for Newer ours (accepted st))) × SaysNothingNew (key_for Newer ours (accepted st))
+pub older_key : (s : List ℕ) (st : ReadingState) → read_with two_operator_rules s ≡ accepted st → (key_of Newer s ≡ text instruction_row (key_for Newer ours (accepted st))) × SaysNothingNew (key_for Newer ours (accepted st))
 unfolding key_by
-older_key s st e = (ap (λ o. text instruction_row (key_for Newer ours o)) (stricter_accepts (with_levels 1 two_operator_rules) sheet_rules third_operator s st e), go (tree_of st.entries) refl)
+older_key s st e = (ap (λ o. text instruction_row (key_for Newer ours o)) (stricter_accepts two_operator_rules sheet_rules third_operator s st e), go (tree_of st.entries) refl)
   where
     go : (o : Option Tree) → tree_of st.entries ≡ o → SaysNothingNew (key_in Newer ours st o)
     go none q = tt
     go (some t) q =
-        let w : WithoutIntersection t = accepted_without (with_levels 1 two_operator_rules) refl (omega arith) s st e t q in
+        let w : WithoutIntersection t = accepted_without two_operator_rules refl (omega arith) s st e t q in
         let I = tree_of_sound st.entries t q in
         let same : some I.tree ≡ some t = sym I.is ∙ q in
         let z : I.tree ≡ t = cc in

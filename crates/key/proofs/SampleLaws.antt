@@ -8,7 +8,7 @@ use Rattle.tree.specs.Context.{frame, left, right, plug, before, OverAbove}
 use Rattle.tree.specs.Pass.{entry_of, pass}
 use Rattle.tree.specs.Parse.{parse, tree_of, locate}
 use Rattle.step.specs.Step.{step}
-use Rattle.lift.specs.Lift.{lift_of}
+use Rattle.lift.specs.Lift.{steps, lift_of}
 use Rattle.table.specs.InnerTable.{filling, tabulate, table}
 use Rattle.gather.specs.Answer.{gather_fault, bad_mark}
 use Rattle.table.proofs.TableLaws.{table_law}
@@ -29,10 +29,9 @@ abbrev four : Tree
 four = leaf 4 tt
 
 pub samples : Samples
-unfolding lift_of step tree_of parse pass entry_of locate plug before postfix size gather_fault bad_mark is_in collect leaves OverAbove Over selects filling tabulate table
+unfolding lift_of steps step tree_of parse pass entry_of locate plug before postfix size gather_fault bad_mark is_in collect leaves OverAbove Over selects filling tabulate table
 samples = record {
   i = record { answers = refl; writes = refl };
-  i_again = record { answers = refl; writes = refl };
   ii = refl;
   iii = refl;
   iv = record { answers = refl; writes = refl };

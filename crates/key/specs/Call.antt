@@ -15,10 +15,10 @@ use Rattle.key.specs.Demand.{Demand3}
 use Rattle.key.specs.declared.KeyAnswer.{KeyAnswer}
 use Rattle.key.specs.declared.KeyAnswer.TheVariants.{Written, Short}
 
--- As many bytes as every key fits in: 15,000 LIFT lines of at most 15 bytes (a lift line of a sheet has at least 4 of its
+-- As many bytes as every key fits in: 10,000 LIFT lines of at most 16 bytes (a lift line of a sheet has at least 6 of its
 -- 60,000 bytes), a HELD line of at most 17, 8,191 code lines of at most 14, and a SHOW line of at most 8.
 abbrev pub key_bytes : ℕ
-key_bytes = 339699
+key_bytes = 274699
 
 -- "It reads a sheet .. and prints `NO` number line, or: ..": a refusal for a sheet that reading refuses, and for one that it accepts
 -- a key that meets the third demand, by a move table

@@ -10,7 +10,7 @@ use Rattle.moves.specs.Moves.{MoveTable}
 use Rattle.sheet.specs.Reading.{ReadingState, ReadingOutcome, accepted, reading, sheet_of}
 use Rattle.sheet.specs.declared.Sheet.{Sheet}
 use Rattle.printing.specs.Key.{Held, unmarked, held_run, cannot, held_rows, instruction_rows}
-use Rattle.lift.specs.InnerLifts.{IsList}
+use Rattle.lift_lines.specs.Inner.{IsList}
 use Rattle.lift_lines.specs.declared.Progress.{Progress}
 use Rattle.printing.specs.declared.Device.{Device}
 use Rattle.printing.specs.declared.Device.TheVariants.{Newer, Older}

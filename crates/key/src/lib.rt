@@ -11,7 +11,7 @@ ghost use Rattle.key.specs.InnerKeyOf.{key_of, school_key_of, KeyBy};
 ghost use Rattle.key.specs.Inner.{code_bytes, EncodesFor, code_lines, MarkedTree, PutsHeld, ReadAs, WroteKey, PutsBeforeCode};
 
 // As many bytes as every key fits in.
-pub const KEY_BYTES: usize = 339699;
+pub const KEY_BYTES: usize = 274699;
 
 // A device's code of a tree.
 fn encode_for(tree: &[u16], out: &mut [u16], device: printing::Device) -> coder::Coded

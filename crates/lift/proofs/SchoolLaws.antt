@@ -24,12 +24,12 @@ pub record Held (t : LoadedTable) : Type 0 where
 pub table_held : (t : LoadedTable) → length t.signs ≡ 1116 → length t.lengths ≡ 36 → is_table (unpacked t) ≡ true → Held t
 table_held t h k e = let E = has_entries (unpacked t) e in record { entries = E.0; is = E.1; holds = unpacked_table t E.0 h k E.1 }
 
-pub by_table : {t : LoadedTable} (H : Held t) (room : ℕ) (l : List ℕ) (p : ℕ) → lift_with t room l p ≡ lift_of (school_table H.entries) room l p
-by_table H room l p = ap (λ (o : Option (List Formula)). lift_by (table_of o) room l p) H.is
+pub by_table : {t : LoadedTable} (H : Held t) (room : ℕ) (l : List ℕ) (p k : ℕ) → lift_with t room l p k ≡ lift_of (school_table H.entries) room l p k
+by_table H room l p k = ap (λ (o : Option (List Formula)). lift_by (table_of o) room l p k) H.is
 
-pub no_table : (t : LoadedTable) (room : ℕ) (l : List ℕ) (p : ℕ) → is_table (unpacked t) ≡ false → lift_with t room l p ≡ refused 29
-no_table t room l p e = go (unpacked t) refl e
+pub no_table : (t : LoadedTable) (room : ℕ) (l : List ℕ) (p k : ℕ) → is_table (unpacked t) ≡ false → lift_with t room l p k ≡ refused 29
+no_table t room l p k e = go (unpacked t) refl e
   where
-    go : (o : Option (List Formula)) → unpacked t ≡ o → is_table o ≡ false → lift_with t room l p ≡ refused 29
+    go : (o : Option (List Formula)) → unpacked t ≡ o → is_table o ≡ false → lift_with t room l p k ≡ refused 29
     go (some ps) q z = absurd (true≢false z)
-    go none q z = ap (λ (o : Option (List Formula)). lift_by (table_of o) room l p) q
+    go none q z = ap (λ (o : Option (List Formula)). lift_by (table_of o) room l p k) q

@@ -1,8 +1,23 @@
--- What a list that is known to be a tree's is. No contract of one of 01's calls cites this file.
-use Rattle.std.specs.Prelude.{◌≡◌, List, ℕ, ◌≤◌}
-use Rattle.tree.specs.Tree.{Tree, postfix, size, most_nodes}
+-- What the functions answer that make several steps. No contract of one of 01's calls cites this file.
+use Rattle.std.specs.Prelude.{List, ℕ}
+use Rattle.tree.specs.Tree.{Tree}
+use Rattle.tree.specs.Context.{Frame}
+use Rattle.tree.specs.InnerPart.{Part}
+use Rattle.lift.specs.Lift.{steps}
+use Rattle.lift.specs.Answer.{Lifts}
+use Rattle.moves.specs.Moves.{MoveTable}
+use Rattle.step.specs.InnerStanding.{Standing}
+use Rattle.step.specs.declared.Node.{Node}
+use Rattle.lift.specs.declared.Lifted.{Lifted}
 
--- a list is the tree's list, within the limit
-pub record IsList (entries : List ℕ) (t : Tree) : Type 0 where
-  pub list : entries ≡ postfix t
-  pub most : size t ≤ most_nodes
+-- a part of the list of a tree ends before `to`
+abbrev pub Ends : List ℕ → ℕ → Type 0
+Ends list to = (from : ℕ) × (a : Tree) × (c : List Frame) × Part list from to a c
+
+-- that many steps of the node, with the looks so far, whichever part it is in the list of a tree
+pub record LiftsNode (m : MoveTable) (list : List ℕ) (n : Node) (levels looks : ℕ) (out : List ℕ) (r : Lifted) (out' : List ℕ) : Type 0 where
+  pub lifts : (a : Tree) (c : List Frame) → Standing list n a c → Lifts (steps m levels a c looks) out r out'
+
+-- that many steps of the part that ends before `to`
+pub record LiftsPart (m : MoveTable) (list : List ℕ) (to levels : ℕ) (out : List ℕ) (r : Lifted) (out' : List ℕ) : Type 0 where
+  pub lifts : (from : ℕ) (a : Tree) (c : List Frame) → Part list from to a c → Lifts (steps m levels a c 0) out r out'

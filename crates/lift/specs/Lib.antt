@@ -1,5 +1,4 @@
 pub mod Lift
 pub mod Answer
 pub mod School
-pub mod Several
 pub mod InnerLifts

@@ -7,9 +7,9 @@ use Rattle.move_table.specs.declared.LoadedTable.{LoadedTable}
 use Rattle.lift.specs.Lift.{Result, refused, lift_of}
 
 -- by the table that it is: one that loading could not have made is refused with 29, before everything else
-abbrev pub lift_by : Option MoveTable → ℕ → List ℕ → ℕ → Result
-lift_by none room list p = refused 29
-lift_by (some m) room list p = lift_of m room list p
+abbrev pub lift_by : Option MoveTable → ℕ → List ℕ → ℕ → ℕ → Result
+lift_by none room list p k = refused 29
+lift_by (some m) room list p k = lift_of m room list p k
 
-abbrev pub lift_with : LoadedTable → ℕ → List ℕ → ℕ → Result
-lift_with t room list p = lift_by (table_of (unpacked t)) room list p
+abbrev pub lift_with : LoadedTable → ℕ → List ℕ → ℕ → ℕ → Result
+lift_with t room list p k = lift_by (table_of (unpacked t)) room list p k

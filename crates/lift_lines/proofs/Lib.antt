@@ -2,4 +2,3 @@
 pub mod LiftingLaws
 pub mod LiftOneLaws
 pub mod LiftAllLaws
-pub mod ChainLineLaws

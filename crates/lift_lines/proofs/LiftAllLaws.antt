@@ -14,8 +14,7 @@ use Rattle.sheet.specs.Reading.{LiftLine}
 use Rattle.sheet.specs.declared.Line.TheVariants.{Lift}
 use Rattle.printing.specs.Key.{lift_row, lift_rows}
 use Rattle.printing.specs.Inner.{row_text}
-use Rattle.lift_lines.specs.Inner.{lift_bytes, LiftedOne, Asked, LiftedAll}
-use Rattle.lift.specs.InnerLifts.{IsList}
+use Rattle.lift_lines.specs.Inner.{lift_bytes, IsList, LiftedOne, Asked, LiftedAll}
 use Rattle.lift_lines.specs.Lifting.{lifting, tree_left, lift_answer, tree_after, lift_answers}
 use Rattle.lift_lines.specs.declared.Progress.{Progress}
 use Rattle.printing.proofs.PrintingLaws.{WroteUpTo, up_to_start, up_to_next, up_to_end}
@@ -51,13 +50,12 @@ pub record Turn (sheet : List ℕ) (at : ℕ) (rest : List LiftLine) : Type 0 wh
   pub line : LiftLine
   pub more : List LiftLine
   pub is : rest ≡ line ∷ more
-  pub levels : ℕ
-  pub read : (line_at sheet_rules sheet at).line ≡ Lift line.position levels
+  pub read : (line_at sheet_rules sheet at).line ≡ Lift line.position line.levels
   pub range : LiftRange line
 
 pub turn : (sheet : List ℕ) (at n : ℕ) (rest : List LiftLine) → Asked sheet at n rest → 0 < n → Turn sheet at rest
 turn sheet at n [] A h = absurd (omega (arith, A.counted))
-turn sheet at n (l ∷ more) A h = unfold LiftsTo in record { line = l; more = more; is = refl; levels = A.lines.0.0; read = A.lines.0.1; range = A.lines.1 }
+turn sheet at n (l ∷ more) A h = unfold LiftsTo in record { line = l; more = more; is = refl; read = A.lines.0; range = A.lines.1 }
 
 next_asked : (sheet : List ℕ) (at n : ℕ) (l : LiftLine) (more : List LiftLine) → Asked sheet at (suc n) (l ∷ more) → Asked sheet (line_at sheet_rules sheet at).next n more
 unfolding LiftsTo

@@ -1,4 +1,4 @@
--- What a call of `lift_known` says, for a tree that the caller has: the definition's result, and what its line needs.
+-- What a call of `lift` says, for a tree that the caller has: the definition's result, and what its line needs.
 use mathlib.Core.Path.{◌≡◌, refl, sym, ap, subst, ◌∙◌}
 use mathlib.Core.List.{List, [], ◌∷◌}
 use Prim.Native.Nat.{ℕ, ◌+◌, ◌^◌, ◌≤◌, ◌<◌}
@@ -13,17 +13,16 @@ use Rattle.tree.proofs.WritingLaws.{wrote_over, take_over}
 use Rattle.text.specs.Line.{line}
 use Rattle.moves.specs.Moves.{MoveTable}
 use Rattle.moves.proofs.MoveLaws.{Right}
-use Rattle.sheet.specs.Form.{most_position}
+use Rattle.sheet.specs.Form.{most_position, most_levels}
 use Rattle.sheet.specs.Reading.{LiftLine}
-use Rattle.lift.specs.Lift.{Result, refused, lifted}
+use Rattle.lift.specs.Lift.{Result, refused, lifted, lift_of}
 use Rattle.lift.specs.Answer.{lift_buffer, Lifts}
-use Rattle.lift.proofs.LiftLaws.{Kept, RefusedKeeps, LiftedKeeps, lift_in_keeps, lift_reply, lifts_reply}
+use Rattle.lift.proofs.LiftLaws.{Kept, RefusedKeeps, LiftedKeeps, lift_in_keeps, lift_of_tree, lift_reply, lifts_reply}
 use Rattle.lift.specs.declared.Lifted.{Lifted}
 use Rattle.lift.specs.declared.Lifted.TheVariants.{Done, Refused}
 use Rattle.printing.specs.Key.{LIFT}
 use Rattle.lift_lines.specs.Lifting.{lifting}
-use Rattle.lift_lines.specs.Inner.{lift_bytes, LiftedOne}
-use Rattle.lift.specs.InnerLifts.{IsList}
+use Rattle.lift_lines.specs.Inner.{lift_bytes, IsList, LiftedOne}
 use Rattle.printing.proofs.PrintingLaws.{lift_most}
 
 -- the lift was done: the new tree's list stands at the front of `new`, and its line is short enough
@@ -35,23 +34,27 @@ pub record DoneLift (m : MoveTable) (t : Tree) (l : LiftLine) (count place looks
   pub front : take count new ≡ postfix tree
   pub long : count ≤ length new
   pub place_small : place < 10 ^ 4
-  pub looks_small : looks < 10
+  pub looks_small : looks < 100
 
 -- it was refused
 pub record RefusedLift (m : MoveTable) (t : Tree) (l : LiftLine) (number : ℕ) : Type 0 where
   pub is : lifting m t l ≡ refused number
   pub small : number < 100
 
-module _ (m : MoveTable) (R : Right m) (entries new : List ℕ) (r : Lifted) (new' : List ℕ) (t : Tree) (l : LiftLine) (w : IsList entries t)
-    (L : Lifts (lifting m t l) new r new') where
-  answered : r ≡ lift_reply (lifting m t l)
-  answered = lifts_reply L
+module _ (m : MoveTable) (R : Right m) (entries new : List ℕ) (r : Lifted) (new' : List ℕ) (t : Tree) (l : LiftLine) (w : IsList entries t) (full : most_nodes ≤ length new)
+    (few : l.levels ≤ most_levels)
+    (L : Lifts (lift_of m (length new) entries l.position l.levels) new r new') where
+  result : lift_of m (length new) entries l.position l.levels ≡ lifting m t l
+  result = ap (λ (e : List ℕ). lift_of m (length new) e l.position l.levels) w.list ∙ lift_of_tree m (length new) t l.position l.levels full w.most
 
-  kept : Kept t (lifting m t l)
-  kept = lift_in_keeps R t l.position w.most
+  answered : r ≡ lift_reply (lifting m t l)
+  answered = lifts_reply L ∙ ap lift_reply result
+
+  kept : Kept t l.levels (lifting m t l)
+  kept = lift_in_keeps R t l.position l.levels w.most
 
   pub done_lift : (count place looks : ℕ) → r ≡ Done count place looks → DoneLift m t l count place looks new'
-  done_lift count place looks e = go (lifting m t l) refl (sym e ∙ answered) L.leaves
+  done_lift count place looks e = go (lifting m t l) refl (sym e ∙ answered) (L.leaves ∙ ap (λ (x : Result). lift_buffer x new) result)
     where
       go : (x : Result) → lifting m t l ≡ x → Done count place looks ≡ lift_reply x → new' ≡ lift_buffer x new → DoneLift m t l count place looks new'
       go (refused n) q f b = absurd (let z : ◌≡◌ {A = ℕ} 0 1 = cc in omega arith)
@@ -60,7 +63,7 @@ module _ (m : MoveTable) (R : Right m) (entries new : List ℕ) (r : Lifted) (ne
           let d : p ≡ place = cc in
           let g : k ≡ looks = cc in
           let h : lifting m t l ≡ lifted u place looks = q ∙ rw (d, g) in
-          let K : LiftedKeeps t u place looks = subst (Kept t) h kept in
+          let K : LiftedKeeps t l.levels u place looks = subst (Kept t l.levels) h kept in
           let most = K.keeps.most in
           record {
             tree = u;
@@ -70,11 +73,11 @@ module _ (m : MoveTable) (R : Right m) (entries new : List ℕ) (r : Lifted) (ne
             front = rw b (take_over (postfix u) new count (a ∙ sym (postfix_length u)));
             long = rw b (omega (arith, a, postfix_length u, length-append (postfix u) (drop (length (postfix u)) new)));
             place_small = omega (arith, K.position_within, most);
-            looks_small = omega (arith, K.looks_are);
+            looks_small = omega (arith, K.looks_are, few);
           }
 
   refused_small : {number : ℕ} → lifting m t l ≡ refused number → number < 100
-  refused_small {number} h = let K : RefusedKeeps t number = subst (Kept t) h kept in K.small
+  refused_small {number} h = let K : RefusedKeeps t number = subst (Kept t l.levels) h kept in K.small
 
   pub refused_lift : (number : ℕ) → r ≡ Refused number → RefusedLift m t l number
   refused_lift number e = go (lifting m t l) refl (sym e ∙ answered)
@@ -87,7 +90,7 @@ module _ (m : MoveTable) (R : Right m) (entries new : List ℕ) (r : Lifted) (ne
           record { is = h; small = refused_small h }
 
 -- ---- the two answers of `lift_one`
-pub lift_line_room : (number position looks at room : ℕ) → number < 100 → position < 10 ^ 4 → looks < 10 → at + lift_bytes ≤ room → at + length (line LIFT (number ∷ position ∷ looks ∷ [])) ≤ room
+pub lift_line_room : (number position looks at room : ℕ) → number < 100 → position < 10 ^ 4 → looks < 100 → at + lift_bytes ≤ room → at + length (line LIFT (number ∷ position ∷ looks ∷ [])) ≤ room
 lift_line_room number position looks at room n p k h = omega (arith, lift_most number position looks n p k)
 
 pub lifted_one_done : {m : MoveTable} {t : Tree} {l : LiftLine} {count place looks next after : ℕ} {tree tree' new out out' : List ℕ} {at : ℕ} → DoneLift m t l count place looks new → most_nodes ≤ length tree

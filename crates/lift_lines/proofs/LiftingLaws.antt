@@ -32,7 +32,7 @@ left_keeps {m} R t l h = go (lifting m t l) refl
     go : (x : Result) → lifting m t l ≡ x → Keeps t (tree_left t x)
     go (refused n) e = keeps_refl t h
     go (lifted u p n) e =
-        let K : LiftedKeeps t u p n = subst (Kept t) e (lift_in_keeps R t l.position h) in
+        let K : LiftedKeeps t l.levels u p n = subst (Kept t l.levels) e (lift_in_keeps R t l.position l.levels h) in
         K.keeps
 
 -- the whole list
@@ -51,8 +51,8 @@ unfolding lift_answers AllAnswers
 never_27 R t [] h w = tt
 never_27 {m} R t (l ∷ ls) h w =
     let K = left_keeps R t l h in
-    (first (lifting m t l) (lift_in_keeps R t l.position h), never_27 R (tree_left t (lifting m t l)) ls K.most (K.without w))
+    (first (lifting m t l) (lift_in_keeps R t l.position l.levels h), never_27 R (tree_left t (lifting m t l)) ls K.most (K.without w))
   where
-    first : (x : Result) → Kept t x → (lift_answer l x).number ≡ 27 → ⊥
+    first : (x : Result) → Kept t l.levels x → (lift_answer l x).number ≡ 27 → ⊥
     first (refused n) K e = K.not_27 w e
     first (lifted u p n) K e = omega arith

@@ -9,7 +9,7 @@ use Rattle.printing.specs.Key.{LiftAnswer}
 
 -- a lift in a tree, by 01's definition
 abbrev pub lifting : MoveTable → Tree → LiftLine → Result
-lifting m t l = lift_in m (some t) l.position
+lifting m t l = lift_in m (some t) l.position l.levels
 
 -- "A refused lift leaves the tree and the next goes on."
 abbrev pub tree_left : Tree → Result → Tree

@@ -1,6 +1,5 @@
 // The lift lines of a sheet: each lift carried out in the tree that the one before it left, and its line written.
 ghost use Rattle.std.specs.Prelude.{◌≡◌, List, ℕ, ◌*◌, ◌≤◌, length};
-ghost use Rattle.tree.specs.Tree.{most_nodes};
 ghost use Rattle.moves.specs.InnerEntries.{SomeTable};
 ghost use Rattle.sheet.specs.Reading.{LiftLine};
 ghost use Rattle.sheet.specs.declared.Line.TheVariants.{Lift};
@@ -14,22 +13,23 @@ pub struct Progress {
 }
 
 // Carries out one lift in the tree that the first `nodes` entries are, by the table whose words' signs and lengths are given, without any by
-// ours, and writes its line. `new` is a second buffer.
+// ours, and writes its line.
 fn lift_one(
     tree: &mut [u16],
     nodes: usize,
     position: usize,
-    new: &mut [u16],
+    levels: usize,
     out: &mut [u8],
     at: usize,
     signs: &[u8],
     lengths: &[u8],
 ) -> Progress
-    requires in_array { InArray tree.old nodes × (most_nodes ≤ length new.old) }
-    requires lift_room { LiftRoom position out.old at × SomeTable signs.now lengths.now }
-    ensures { LiftsOne tree.old nodes position tree.new result out.old at out.new signs.now lengths.now }
+    requires in_array { InArray tree.old nodes }
+    requires lift_room { LiftRoom position levels out.old at × SomeTable signs.now lengths.now }
+    ensures { LiftsOne tree.old nodes position levels tree.new result out.old at out.new signs.now lengths.now }
 {
-    let lifted = lift::lift_known(&tree[..nodes], position, new, signs, lengths);
+    let mut new = [0u16; tree::MOST_NODES];
+    let lifted = lift::lift_by(&tree[..nodes], position, levels, &mut new, signs, lengths);
     match lifted {
         lift::Lifted::Done {
             nodes: count,
@@ -47,14 +47,26 @@ fn lift_one(
     }
 }
 
-// A lift line's position.
-fn lift_position(line: sheet::Line) -> usize
-    ensures { (p n : ℕ) → line ≡ Lift p n → result ≡ p }
+// A lift line's two numbers.
+#[derive(Drop)]
+struct LiftNumbers {
+    position: usize,
+    levels: usize,
+}
+
+fn lift_numbers(line: sheet::Line) -> LiftNumbers
+    ensures { (p n : ℕ) → line ≡ Lift p n → (result.position ≡ p) × (result.levels ≡ n) }
 {
-    let sheet::Line::Lift(position, _) = line else {
-        return 0;
+    let sheet::Line::Lift(position, levels) = line else {
+        return LiftNumbers {
+            position: 0,
+            levels: 0,
+        };
     };
-    position as usize
+    LiftNumbers {
+        position: position as usize,
+        levels: levels as usize,
+    }
 }
 
 // Carries out the lifts of the lines from the byte `start` on, by that table, and writes their lines.
@@ -73,7 +85,6 @@ pub fn lift_all(
     requires some_table { SomeTable signs.now lengths.now }
     ensures { LiftsAll sheet.now start count tree.old nodes tree.new result out.old out.new signs.now lengths.now }
 {
-    let mut new = [0u16; tree::MOST_NODES];
     let mut at = start;
     let mut entries = nodes;
     let mut next = 0;
@@ -81,8 +92,17 @@ pub fn lift_all(
     while i < count {
         let here = sheet::line_at(sheet, at);
         let line = here.line;
-        let position = lift_position(line);
-        let done = lift_one(tree, entries, position, &mut new, out, next, signs, lengths);
+        let asked = lift_numbers(line);
+        let done = lift_one(
+            tree,
+            entries,
+            asked.position,
+            asked.levels,
+            out,
+            next,
+            signs,
+            lengths,
+        );
         at = here.next;
         entries = done.nodes;
         next = done.next;

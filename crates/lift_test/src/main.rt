@@ -2,10 +2,23 @@
 // Before each case every number of the buffer is 61000, no group's and no operator's. A line has the case; the number, the position and the looks that the key would
 // print; the new tree's length; how many numbers of the buffer still are 61000; a checksum of the whole buffer; and the new tree's first
 // entries.
+ghost use Rattle.std.specs.Prelude.{◌≤◌, length};
+
 use lift::Lifted;
 use tree::{DIFFERENCE, INTERSECTION, UNION};
 
 const BEFORE: u16 = 61000;
+
+// Sets the list's numbers from index `from` up to, not including, `to`.
+fn set_all(list: &mut [u16], from: usize, to: usize, x: u16)
+    requires { to ≤ length list.old }
+{
+    let mut i = from;
+    while i < to {
+        list[i] = x;
+        i += 1;
+    }
+}
 
 // Sets one number, where there is one.
 fn put(list: &mut [u16], at: usize, x: u16) {
@@ -117,8 +130,8 @@ fn nodes_of(answer: Lifted) -> usize {
 }
 
 // Lifts one case with this buffer and prints its line.
-fn show_in(label: &[u8], tree: &[u16], position: usize, out: &mut [u16]) {
-    let answer = lift::lift(tree, position, out);
+fn show_in(label: &[u8], tree: &[u16], position: usize, levels: usize, out: &mut [u16]) {
+    let answer = lift::lift(tree, position, levels, out);
     io::write_all(1, label);
     io::write_all(1, b": ");
     print_answer(answer, position);
@@ -129,63 +142,73 @@ fn show_in(label: &[u8], tree: &[u16], position: usize, out: &mut [u16]) {
 }
 
 // The same with a buffer of 8,191 numbers.
-fn show(label: &[u8], tree: &[u16], position: usize) {
+fn show(label: &[u8], tree: &[u16], position: usize, levels: usize) {
     let mut out = [BEFORE; 8191];
-    show_in(label, tree, position, &mut out);
+    show_in(label, tree, position, levels, &mut out);
 }
 
 // 01's samples.
 fn samples() {
-    show(b"(i)", &[1, 2, 65002, 3, 65002, 4, 65001, 5, 65002], 0);
-    show(
-        b"(i) again",
-        &[1, 2, 3, 65001, 65002, 4, 65001, 5, 65002],
-        0,
-    );
-    show(b"(ii)", &[1, 2, 65002], 0);
-    show(b"(iii)", &[1, 2, 65002, 3, 65001], 0);
-    show(b"(iv)", &[5, 4, 3, 2, 1, 65002, 65002, 65002, 65002], 4);
-    show(b"(v)", &[3, 2, 1, 65002, 65002, 4, 65002], 2);
-    show(b"(vi)", &[3, 2, 1, 65002, 65002, 4, 65001, 5, 65001], 2);
+    show(b"(i)", &[1, 2, 65002, 3, 65002, 4, 65001, 5, 65002], 0, 2);
+    show(b"(ii)", &[1, 2, 65002], 0, 1);
+    show(b"(iii)", &[1, 2, 65002, 3, 65001], 0, 1);
+    show(b"(iv)", &[5, 4, 3, 2, 1, 65002, 65002, 65002, 65002], 4, 1);
+    show(b"(v)", &[3, 2, 1, 65002, 65002, 4, 65002], 2, 1);
+    show(b"(vi)", &[3, 2, 1, 65002, 65002, 4, 65001, 5, 65001], 2, 1);
 }
 
-// Each refusal but 16.
+// Each refusal but 16, and the second step of two refused.
 fn refusals() {
     let mut short = [BEFORE; 8190];
-    show_in(b"11 a buffer of 8190", &[1, 2, 65002], 0, &mut short);
-    show(b"12 two trees", &[1, 2], 0);
-    show(b"12 no operand", &[65001], 0);
-    show(b"12 no group", &[60001, 2, 65001], 0);
-    show(b"13", &[1, 2, 65002], 3);
-    show(b"14 the root", &[1, 2, 65002, 3, 65002], 4);
-    show(b"14 at level 1", &[1, 2, 65002, 3, 65002], 2);
-    show(b"at level 2", &[1, 2, 65002, 3, 65002], 0);
+    show_in(b"11 a buffer of 8190", &[1, 2, 65002], 0, 1, &mut short);
+    show(b"12 two trees", &[1, 2], 0, 1);
+    show(b"12 no operand", &[65001], 0, 1);
+    show(b"12 no group", &[60001, 2, 65001], 0, 1);
+    show(b"13", &[1, 2, 65002], 3, 1);
+    show(b"14 no levels", &[1, 2, 65002, 3, 65002], 0, 0);
+    show(b"14 as many as the level", &[1, 2, 65002, 3, 65002], 0, 2);
+    show(b"one less", &[1, 2, 65002, 3, 65002], 0, 1);
+    show(
+        b"15 at the second step",
+        &[1, 2, 65002, 3, 65001, 4, 65001],
+        0,
+        2,
+    );
 }
 
 // An intersection at each of the three places above A, needed and not.
 fn intersections() {
-    show(b"27 the parent", &[1, 2, 65003, 3, 65001], 0);
-    show(b"27 the grandparent", &[3, 1, 2, 65002, 65003], 2);
+    show(b"27 the parent", &[1, 2, 65003, 3, 65001], 0, 1);
+    show(b"27 the grandparent", &[3, 1, 2, 65002, 65003], 2, 1);
     show(
         b"27 the node above T",
         &[1, 2, 65002, 3, 65001, 4, 65003],
         0,
+        1,
     );
-    show(b"not needed", &[4, 1, 2, 65002, 3, 65002, 65003], 1);
-    show(b"14 before 27", &[1, 2, 65003, 3, 65001], 2);
-    show(b"12 a fourth operator", &[1, 2, 65004], 0);
+    show(b"not needed", &[4, 1, 2, 65002, 3, 65002, 65003], 1, 1);
+    show(
+        b"27 at the second step",
+        &[4, 1, 2, 65002, 3, 65002, 65003, 5, 65001],
+        1,
+        2,
+    );
+    show(b"14 before 27", &[1, 2, 65003, 3, 65001], 0, 2);
+    show(b"12 a fourth operator", &[1, 2, 65004], 0, 1);
 }
 
-// A chain of unions: the last position, the one after it, and the first.
+// A chain of unions: the last position and the one after it, and many levels.
 fn long_chains() {
     let mut list = [1u16; 8191];
     chain(&mut list, 1, 2, UNION);
-    show(b"position 8190, the root", &list, 8190);
-    show(b"position 8191", &list, 8191);
-    show(b"position 0", &list, 0);
+    show(b"position 8190, the root", &list, 8190, 1);
+    show(b"position 8191", &list, 8191, 1);
+    show(b"99 levels", &list, 0, 99);
+    show(b"4094 levels", &list, 0, 4094);
+    show(b"4095 levels", &list, 0, 4095);
     let mut long = [1u16; 8193];
     chain(&mut long, 1, 2, UNION);
-    show(b"12 a tree of 8193", &long, 0);
+    show(b"12 a tree of 8193", &long, 0, 1);
 }
 
 // (1 U 2)-3 joined with a chain: a step in state 5 makes it two nodes longer.
@@ -206,25 +229,47 @@ fn join_chain(list: &mut [u16]) {
 fn results() {
     let mut shorter = [0u16; 8189];
     join_chain(&mut shorter);
-    show(b"a result of 8191", &shorter, 0);
+    show(b"a result of 8191", &shorter, 0, 1);
     let mut list = [0u16; 8191];
     join_chain(&mut list);
-    show(b"16 a result of 8193", &list, 0);
+    show(b"16 a result of 8193", &list, 0, 1);
 }
 
 // A at level 2 in each of the states 5 to 9; state 6 is sample (iii).
 fn level_two() {
-    show(b"15 at level 2 in state 5", &[1, 2, 65001, 3, 65002], 0);
-    show(b"15 in state 7", &[2, 1, 65002, 3, 65001], 1);
-    show(b"15 in state 8", &[3, 1, 2, 65002, 65002], 1);
-    show(b"15 in state 9", &[3, 2, 1, 65002, 65002], 2);
+    show(b"15 at level 2 in state 5", &[1, 2, 65001, 3, 65002], 0, 1);
+    show(b"15 in state 7", &[2, 1, 65002, 3, 65001], 1, 1);
+    show(b"15 in state 8", &[3, 1, 2, 65002, 65002], 1, 1);
+    show(b"15 in state 9", &[3, 2, 1, 65002, 65002], 2, 1);
 }
 
 // A at level 3 in state 9 under input a, c and d; under b it is sample (v), and deeper under d and a samples (iv) and (vi).
 fn state_nine() {
-    show(b"9 a", &[3, 2, 1, 65002, 65002, 4, 65001], 2);
-    show(b"9 c", &[4, 3, 2, 1, 65002, 65002, 65001], 3);
-    show(b"9 d", &[4, 3, 2, 1, 65002, 65002, 65002], 3);
+    show(b"9 a", &[3, 2, 1, 65002, 65002, 4, 65001], 2, 1);
+    show(b"9 c", &[4, 3, 2, 1, 65002, 65002, 65001], 3, 1);
+    show(b"9 d", &[4, 3, 2, 1, 65002, 65002, 65002], 3, 1);
+}
+
+// Chains of 100 differences: nested to the left, to the right, and one that stays in state 9.
+fn differences() {
+    let mut left = [1u16; 201];
+    chain(&mut left, 1, 2, DIFFERENCE);
+    show(
+        b"100 differences, the first group by 99 levels",
+        &left,
+        0,
+        99,
+    );
+    let mut right = [7u16; 201];
+    set_all(&mut right, 101, 201, DIFFERENCE);
+    show(b"the last group by 98 levels", &right, 100, 98);
+    show(b"15 by 99 levels", &right, 100, 99);
+    let mut nine = [3u16; 201];
+    chain(&mut nine, 5, 4, DIFFERENCE);
+    put(&mut nine, 1, 2);
+    put(&mut nine, 2, 1);
+    set_all(&mut nine, 3, 5, DIFFERENCE);
+    show(b"in state 9 by 98 levels", &nine, 2, 98);
 }
 
 fn main() {
@@ -235,4 +280,5 @@ fn main() {
     intersections();
     long_chains();
     results();
+    differences();
 }

@@ -1,9 +1,10 @@
 -- The numbers by which the code's tables are read, a table's entry, and what functions answer of these. No contract of one of 01's calls cites this file.
 use Rattle.std.specs.Prelude.{◌≡◌, List, [], ◌∷◌, ◌++◌, ℕ, ◌-◌, ◌*◌, ◌%◌, ◌≤◌, T, leb, length, get_or, take, drop, replicate, Bool, true, false}
 use Rattle.std.proofs.Math.Option.{Option, some, none}
-use Rattle.words.specs.Formula.{Formula}
+use Rattle.words.specs.Formula.{Formula, once}
 use Rattle.moves.specs.Moves.{State, state_number, Input, input_number, Move, MoveTable, school, place_number, replace_t, replace_t_with_d, ours}
 use Rattle.moves.specs.LeftSides.{stands_for}
+use Rattle.moves.specs.NextState.{left_above, state_after}
 use Rattle.words.specs.Word.{most_signs, word}
 use Rattle.words.specs.InnerWords.{blank}
 
@@ -42,6 +43,21 @@ only_t (replace_t_with_d f) = false
 pub record WordIs (w : List ℕ) (p : Formula) : Type 0 where
   pub blanks : ℕ
   pub is : w ≡ word p ++ replicate blanks blank
+
+-- a word is that of a move under an input, names A once, and the move leaves two frames above A
+pub record LeavesTwo (w : List ℕ) (v : Move) (i : Input) : Type 0 where
+  pub its_word : WordIs w (entry_of v i)
+  pub names_once : T (once (entry_of v i))
+  pub two : length (left_above v i) ≡ 2
+
+-- .. where there is an input
+abbrev pub LeavesTwoUnder : List ℕ → Move → Option Input → Type 0
+LeavesTwoUnder w v (some i) = LeavesTwo w v i
+LeavesTwoUnder w v none = Unit {0}
+
+-- the number of the state after a step, by its word, whether T alone is replaced, and the input's number: for whichever move that is
+abbrev pub NextIs : List ℕ → Bool → ℕ → ℕ → Type 0
+NextIs w b input r = (v : Move) (i : Option Input) → only_t v ≡ b → InputIs input i → LeavesTwoUnder w v i → r ≡ optional_number (state_after v i)
 
 -- ---- a table as the code holds it
 -- a school's words: their signs, in rows of 31, and their lengths

@@ -1,10 +1,10 @@
-// The move entries of Table 9 and the state of a part. Nothing here knows a list of lifts.
+// The move entries of Table 9, the state of a part, and the next state that an entry leads to. Nothing here knows a list of lifts.
 ghost use Rattle.std.specs.Prelude.{◌≡◌, ◌≤◌};
 ghost use Rattle.tree.specs.Tree.{Operator};
 ghost use Rattle.tree.specs.Context.{Side};
 ghost use Rattle.tree.specs.InnerPart.{kind_of};
 ghost use Rattle.moves.specs.Moves.{basic, state_with};
-ghost use Rattle.moves.specs.InnerEntries.{optional_number, EntryIs};
+ghost use Rattle.moves.specs.InnerEntries.{optional_number, EntryIs, NextIs};
 
 // Table 9, state 9 by request 2: the move entries, operands before operators, + for union and - for difference: a row for each state, under
 // inputs a b c d. In states 1 to 4 they replace T alone, in states 5 to 9 T with D.
@@ -96,4 +96,20 @@ pub fn state_of(own: u8, parent: u8) -> usize
     }
     let row = STATES[own as usize];
     row[parent as usize]
+}
+
+// The state after a step, from the frames that the entry's word leaves above A: one and the input's where T alone is replaced; two where T
+// with D is. 0 where there is no input.
+pub fn next_state(word: &[u8], alone: bool, input: usize) -> usize
+    ensures { NextIs word.now alone input result }
+{
+    if NO_INPUT <= input {
+        return 0;
+    }
+    let above = words::above_a(word);
+    let above_t = input as u8;
+    if alone {
+        return state_of(above.own, above_t);
+    }
+    state_of(above.own, above.parent)
 }

@@ -165,10 +165,10 @@ unfolding lines instruction_rows older-codes.AllWellFormed
 older_code_most r h [] w = omega (arith, line_one SHOW r, digits_length 1 r (omega arith), length-append (row_text (older_row (older.show r))) [])
 older_code_most r h (i ∷ is) w = omega (arith, older_most i w.0, older_code_most r h is w.1, length-append (row_text (older_row i)) (lines (instruction_rows older_row (is ++ (older.show r ∷ [])))))
 
--- a LIFT line: at most 15
-pub lift_most : (number position looks : ℕ) → number < 100 → position < 10 ^ 4 → looks < 10 → length (line LIFT (number ∷ position ∷ looks ∷ [])) ≤ 15
+-- a LIFT line: at most 16
+pub lift_most : (number position looks : ℕ) → number < 100 → position < 10 ^ 4 → looks < 100 → length (line LIFT (number ∷ position ∷ looks ∷ [])) ≤ 16
 lift_most number position looks n p k =
-    omega (arith, line_three LIFT number position looks, digits_length 1 number (omega arith), digits_length 3 position (omega arith), digits_length 0 looks (omega arith))
+    omega (arith, line_three LIFT number position looks, digits_length 1 number (omega arith), digits_length 3 position (omega arith), digits_length 1 looks (omega arith))
 
 -- a HELD line: at most 17
 pub held_most : (first count : ℕ) → first < 10 ^ 4 → count < 10 ^ 4 → length (line HELD (0 ∷ first ∷ count ∷ [])) ≤ 17

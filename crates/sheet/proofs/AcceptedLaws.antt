@@ -98,7 +98,7 @@ lifts_none : (rules : Rules) (s : List ℕ) (at : ℕ) → LiftsTo rules s at []
 unfolding LiftsTo
 lifts_none rules s at = refl
 
-lifts_snoc : (rules : Rules) (s : List ℕ) (from at : ℕ) (ms : List LiftLine) (m : LiftLine) → LiftsTo rules s from ms at → ((n : ℕ) × ((line_at rules s at).line ≡ Lift m.position n)) → LiftRange m
+lifts_snoc : (rules : Rules) (s : List ℕ) (from at : ℕ) (ms : List LiftLine) (m : LiftLine) → LiftsTo rules s from ms at → (line_at rules s at).line ≡ Lift m.position m.levels → LiftRange m
     → LiftsTo rules s from (ms ++ (m ∷ [])) (line_at rules s at).next
 unfolding LiftsTo
 lifts_snoc rules s from at [] m e l r = rw e (l, r, refl)
@@ -124,7 +124,7 @@ path_next rules s st at (Lift k n) p q r e =
     let h : p.to ≡ at = p.here (order_none st.phase (length (trees st.entries)) 1 (none_of rules st (Lift k n) e).0).0 in
     record {
       to = (line_at rules s at).next;
-      lifts = lifts_snoc rules s st.start at st.lifts (record { position = k }) (rw h at p.lifts) (n, q) r;
+      lifts = lifts_snoc rules s st.start at st.lifts (record { position = k; levels = n }) (rw h at p.lifts) q r;
       here = λ z. refl;
       none_yet = λ z. absurd (omega arith);
     }

@@ -170,11 +170,8 @@ one_group kind n o e q = rw (eq-eqb kind letter_g q) (ranged_capped (is_up_to sh
 pub one_mark : (kind n : ℕ) (o : Option ℕ) → n ≡ capped o → (kind ≡ letter_g → ⊥) → kind ≡ letter_k → cond (is_up_to sheet_rules.last_group n) (Mark n) Bad ≡ one_number sheet_rules kind o
 one_mark kind n o e h q = rw (ne_eqb kind letter_g h, eq-eqb kind letter_k q) (ranged_capped (is_up_to sheet_rules.last_group) Mark o n e group_cap)
 
-pub one_lift : (kind n : ℕ) (o : Option ℕ) → n ≡ capped o → (kind ≡ letter_g → ⊥) → (kind ≡ letter_k → ⊥) → kind ≡ letter_l → cond (is_position n) (Lift n 1) Bad ≡ one_number sheet_rules kind o
-one_lift kind n o e g k q = rw (ne_eqb kind letter_g g, ne_eqb kind letter_k k, eq-eqb kind letter_l q) (ranged_capped is_position (λ p. Lift p 1) o n e position_cap)
-
-pub one_other : (kind : ℕ) (o : Option ℕ) → (kind ≡ letter_g → ⊥) → (kind ≡ letter_k → ⊥) → (kind ≡ letter_l → ⊥) → Bad ≡ one_number sheet_rules kind o
-one_other kind o g k l = rw (ne_eqb kind letter_g g, ne_eqb kind letter_k k, ne_eqb kind letter_l l)
+pub one_other : (kind : ℕ) (o : Option ℕ) → (kind ≡ letter_g → ⊥) → (kind ≡ letter_k → ⊥) → Bad ≡ one_number sheet_rules kind o
+one_other kind o g k = rw (ne_eqb kind letter_g g, ne_eqb kind letter_k k)
 
 pub two_lift : (kind p n : ℕ) (o u : Option ℕ) → p ≡ capped o → n ≡ capped u → kind ≡ letter_l
     → cond (is_position p) (cond (is_levels n) (Lift p n) Bad) Bad ≡ two_numbers kind o u
@@ -195,7 +192,7 @@ either P false x y p q = q
 pub record OfEach (rules : Rules) (P : Line → Type 0) : Type 0 where
   pub group : (n : ℕ) → is_up_to rules.last_group n ≡ true → P (Group n)
   pub operator : (o : TreeOperator) → (sign o ≡ sign intersection → rules.intersections ≡ true) → P (Operator (sign o))
-  pub lift : (p n : ℕ) → is_position p ≡ true → P (Lift p n)
+  pub lift : (p n : ℕ) → is_position p ≡ true → is_levels n ≡ true → P (Lift p n)
   pub mark : (n : ℕ) → is_up_to rules.last_group n ≡ true → P (Mark n)
   pub end : P End
   pub bad : P Bad
@@ -217,10 +214,9 @@ module _ (rules : Rules) (P : Line → Type 0) (E : OfEach rules P) where
   each_form (last kind) = each_bare (letter_of kind)
   each_form (part kind (last f)) =
       either P (eqb (letter_of kind) letter_g) _ _ (λ e. each_ranged _ Group E.group (decimal f))
-      (either P (eqb (letter_of kind) letter_k) _ _ (λ e. each_ranged _ Mark E.mark (decimal f))
-      (either P (eqb (letter_of kind) letter_l && rules.short_lifts) _ _ (λ e. each_ranged is_position (λ p. Lift p 1) (λ p h. E.lift p 1 h) (decimal f)) E.bad))
+      (either P (eqb (letter_of kind) letter_k) _ _ (λ e. each_ranged _ Mark E.mark (decimal f)) E.bad)
   each_form (part kind (part f (last g))) =
-      either P (eqb (letter_of kind) letter_l) _ _ (λ e. each_ranged is_position _ (λ p h. each_ranged is_levels (λ n. Lift p n) (λ n k. E.lift p n h) (decimal g)) (decimal f)) E.bad
+      either P (eqb (letter_of kind) letter_l) _ _ (λ e. each_ranged is_position _ (λ p h. each_ranged is_levels (λ n. Lift p n) (λ n k. E.lift p n h k) (decimal g)) (decimal f)) E.bad
   each_form (part kind (part f (part g fs))) = E.bad
 
   pub each_line : (l : List ℕ) → P (line_of rules l)
@@ -232,21 +228,20 @@ pub line_range : (rules : Rules) → rules.last_group ≤ most_group → (l : Li
 line_range rules most = each_line rules InRange (record {
   group = λ n e. up_to_more rules.last_group most_group n most e;
   operator = λ o _. (o, refl);
-  lift = λ p n e. record { position_most = leb-true p most_position e };
+  lift = λ p n e f. let z = and_both (leb 1 n) (leb n most_levels) f in record { position_most = leb-true p most_position e; levels_least = leb-true 1 n z.0; levels_most = leb-true n most_levels z.1 };
   mark = λ n e. up_to_more rules.last_group most_group n most e;
   end = tt;
   bad = tt;
 })
 
 -- ---- one line by two rules
--- what they make of it: the same, or the stricter ones know no such group, no `I` or no lift of a position alone
+-- what they make of it: the same, or the stricter ones know no such group or no `I`
 pub data Forms (few more : Rules) (k l : Line) : Type 0 where
   same_form : k ≡ l → Forms few more k l
   unknown_group : few.last_group < more.last_group → k ≡ Bad → Forms few more k l
   unknown_operator : few.intersections ≡ false → more.intersections ≡ true → k ≡ Bad → Forms few more k l
-  unknown_lift : few.short_lifts ≡ false → more.short_lifts ≡ true → k ≡ Bad → Forms few more k l
 
-module _ (few more : Rules) (less : few.last_group ≤ more.last_group) (may : few.intersections ≡ true → more.intersections ≡ true) (short : few.short_lifts ≡ true → more.short_lifts ≡ true) where
+module _ (few more : Rules) (less : few.last_group ≤ more.last_group) (may : few.intersections ≡ true → more.intersections ≡ true) where
   forms_either : (b : Bool) {k l m n : Line} → Forms few more k l → Forms few more m n → Forms few more (cond b k m) (cond b l n)
   forms_either true p q = p
   forms_either false p q = q
@@ -274,21 +269,11 @@ module _ (few more : Rules) (less : few.last_group ≤ more.last_group) (may : f
       go false p true q = unknown_group (up_to_between few.last_group more.last_group n p q) refl
       go false p false q = same_form refl
 
-  forms_short : (k : Bool) (o : Option ℕ) → Forms few more (cond (k && few.short_lifts) (ranged is_position (λ p. Lift p 1) o) Bad) (cond (k && more.short_lifts) (ranged is_position (λ p. Lift p 1) o) Bad)
-  forms_short false o = same_form refl
-  forms_short true o = go few.short_lifts refl more.short_lifts refl
-    where
-      go : (b : Bool) → few.short_lifts ≡ b → (c : Bool) → more.short_lifts ≡ c → Forms few more (cond b (ranged is_position (λ p. Lift p 1) o) Bad) (cond c (ranged is_position (λ p. Lift p 1) o) Bad)
-      go true p true q = same_form refl
-      go true p false q = absurd (true≢false (sym (short p) ∙ q))
-      go false p true q = unknown_lift p q refl
-      go false p false q = same_form refl
-
   forms_fields : (ps : Parts) → Forms few more (form_of few ps) (form_of more ps)
   unfolding form_of
   forms_fields (last kind) = forms_bare (letter_of kind)
   forms_fields (part kind (last f)) =
-      forms_either (eqb (letter_of kind) letter_g) (forms_ranged Group (decimal f)) (forms_either (eqb (letter_of kind) letter_k) (forms_ranged Mark (decimal f)) (forms_short (eqb (letter_of kind) letter_l) (decimal f)))
+      forms_either (eqb (letter_of kind) letter_g) (forms_ranged Group (decimal f)) (forms_either (eqb (letter_of kind) letter_k) (forms_ranged Mark (decimal f)) (same_form refl))
   forms_fields (part kind (part f (last g))) = same_form refl
   forms_fields (part kind (part f (part g fs))) = same_form refl
 
@@ -296,12 +281,11 @@ module _ (few more : Rules) (less : few.last_group ≤ more.last_group) (may : f
   unfolding line_of
   forms l = forms_fields (split tab l)
 
--- a line's form depends on the last group, on whether `I` may stand and on whether a lift may have a position alone only
-pub forms_alike : (r s : Rules) → r.last_group ≡ s.last_group → r.intersections ≡ s.intersections → r.short_lifts ≡ s.short_lifts → (l : List ℕ) → line_of r l ≡ line_of s l
-forms_alike r s e f g l = go (forms r s (omega arith) (λ z. sym f ∙ z) (λ z. sym g ∙ z) l)
+-- a line's form depends on the last group and on whether `I` may stand only
+pub forms_alike : (r s : Rules) → r.last_group ≡ s.last_group → r.intersections ≡ s.intersections → (l : List ℕ) → line_of r l ≡ line_of s l
+forms_alike r s e f l = go (forms r s (omega arith) (λ z. sym f ∙ z) l)
   where
     go : Forms r s (line_of r l) (line_of s l) → line_of r l ≡ line_of s l
     go (same_form q) = q
     go (unknown_group h q) = absurd (omega (arith, h))
     go (unknown_operator a b q) = absurd (true≢false (sym b ∙ sym f ∙ a))
-    go (unknown_lift a b q) = absurd (true≢false (sym b ∙ sym g ∙ a))

@@ -84,9 +84,9 @@ module _ {rules : Rules} {st : ReadingState} {p : Progress} {tree groups marks :
   unfolding fault_of
   fault_operator x = rw (h.phase, h.waits, tree_long, nodes_is)
 
-  pub fault_lift : rules.tasks ≡ true → rules.levels ≡ 1 → (q n : ℕ) → fault_of rules st (Lift q n) ≡ first_fault (order_fault p.phase p.waiting 1) (cond (ltb 1 n) 31 0)
+  pub fault_lift : rules.tasks ≡ true → (q n : ℕ) → fault_of rules st (Lift q n) ≡ first_fault (order_fault p.phase p.waiting 1) 0
   unfolding fault_of
-  fault_lift a b q n = rw (a, b, h.phase, h.waits)
+  fault_lift a q n = rw (a, h.phase, h.waits)
 
   -- of a mark, the faults after that of a file without tasks
   abbrev pub later_mark : ℕ → ℕ
@@ -204,7 +204,7 @@ module _ {rules : Rules} {st : ReadingState} {p : Progress} {tree groups marks :
       (record { fault = p.fault; line = p.line + 1; phase = 1; nodes = p.nodes; waiting = p.waiting; different = p.different; marked = p.marked; start = p.start; lifts = p.lifts + 1 })
       tree groups marks
   stepped_lift q n after e =
-      let l = length-append st.lifts (record { position = q } ∷ []) in
+      let l = length-append st.lifts (record { position = q; levels = n } ∷ []) in
       stepped_on (Lift q n) after _ _ _ _ refl refl e
       (holds_over 1 _ _ _ _ _ (sound_lift rules st h.sound q n after (none_of rules st (Lift q n) e).0) h.marked (omega (arith, h.lifts, l)) (omega (arith, h.few)))
 

@@ -8,7 +8,6 @@ mod HoldLaws
 mod LoopLaws
 pub mod AcceptedLaws
 pub mod RulesLaws
-pub mod LevelsLaws
 pub mod LiftLineLaws
 pub mod TypedLaws
 pub mod WithoutLaws

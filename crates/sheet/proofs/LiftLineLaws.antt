@@ -1,4 +1,4 @@
--- A lift line of a sheet has at least 4 bytes, so a sheet has at most 15,000 lifts.
+-- A lift line of a sheet has at least 6 bytes, so a sheet has at most 10,000 lifts.
 use mathlib.Core.Path.{◌≡◌, refl, sym, ap, ◌∙◌}
 use mathlib.Core.Bool.{Bool, true, false, not, cond, ◌&&◌, true≢false}
 use mathlib.Core.List.{List, [], ◌∷◌, ◌++◌}
@@ -8,7 +8,7 @@ use native.Mathlib.Omega.{arith}
 use borrow.Author.Tests.{eqb-true, ltb-true}
 use lib.Dec.{eqb, ltb}
 use lib.ListN.{length, drop, length-append, length-drop}
-use Rattle.tree.specs.Tree.{union, difference, intersection, is_up_to}
+use Rattle.tree.specs.Tree.{union, difference, intersection}
 use Rattle.text.specs.Decimal.{decimal, value, leading_zero, all_digits}
 use Rattle.text.specs.Parts.{Parts, last, part, split, join}
 use Rattle.text.specs.Line.{tab, line_feed}
@@ -33,7 +33,7 @@ decimal_some f n e = go (ltb 0 (length f)) refl e
     go true q e = ltb-true 0 (length f) q
     go false q e = differ cc
 
--- only a line of one number or of two has the form of a lift
+-- only a line of two numbers has the form of a lift
 abbrev is_lift : Line → Bool
 is_lift (Group g) = false
 is_lift (Operator x) = false
@@ -57,24 +57,14 @@ ranged_other : (passes : ℕ → Bool) (form : ℕ → Line) (o : Option ℕ) �
 ranged_other passes form none f = refl
 ranged_other passes form (some g) f = other (passes g) _ _ (f g) refl
 
+one_other : (rules : Rules) (k : ℕ) (o : Option ℕ) → is_lift (one_number rules k o) ≡ false
+one_other rules k o = other (eqb k letter_g) _ _ (ranged_other _ Group o (λ g. refl)) (other (eqb k letter_k) _ _ (ranged_other _ Mark o (λ g. refl)) refl)
+
 -- a letter is one byte
 letter_one : (k : List ℕ) → letter_of k ≡ letter_l → length k ≡ 1
 letter_one [] e = absurd (omega arith)
 letter_one (b ∷ []) e = refl
 letter_one (b ∷ (c ∷ k)) e = absurd (omega arith)
-
-one_long : (rules : Rules) (k f : List ℕ) (p n : ℕ) → one_number rules (letter_of k) (decimal f) ≡ Lift p n → (length k ≡ 1) × (1 ≤ length f)
-one_long rules k f p n e = go (eqb (letter_of k) letter_g) (eqb (letter_of k) letter_k) (eqb (letter_of k) letter_l) refl rules.short_lifts (decimal f) refl e
-  where
-    go : (a b c : Bool) → eqb (letter_of k) letter_l ≡ c → (d : Bool) (o : Option ℕ) → decimal f ≡ o
-        → cond a (ranged (is_up_to rules.last_group) Group o) (cond b (ranged (is_up_to rules.last_group) Mark o) (cond (c && d) (ranged is_position (λ p. Lift p 1) o) Bad)) ≡ Lift p n
-        → (length k ≡ 1) × (1 ≤ length f)
-    go true b c q d o r e = no_lift (ranged (is_up_to rules.last_group) Group o) p n (ranged_other _ Group o (λ g. refl)) e
-    go false true c q d o r e = no_lift (ranged (is_up_to rules.last_group) Mark o) p n (ranged_other _ Mark o (λ g. refl)) e
-    go false false true q true (some x) r e = (letter_one k (eqb-true (letter_of k) letter_l q), decimal_some f x r)
-    go false false true q true none r e = no_lift Bad p n refl e
-    go false false true q false o r e = no_lift Bad p n refl e
-    go false false false q d o r e = no_lift Bad p n refl e
 
 two_long : (k f g : List ℕ) (p n : ℕ) → two_numbers (letter_of k) (decimal f) (decimal g) ≡ Lift p n → (length k ≡ 1) × (1 ≤ length f) × (1 ≤ length g)
 two_long k f g p n e = go (eqb (letter_of k) letter_l) refl (decimal f) refl (decimal g) refl e
@@ -86,39 +76,39 @@ two_long k f g p n e = go (eqb (letter_of k) letter_l) refl (decimal f) refl (de
     go true q none r y s e = no_lift Bad p n refl e
     go false q x r y s e = no_lift Bad p n refl e
 
-long_enough : (rules : Rules) (ps : Parts) (p n : ℕ) → form_of rules ps ≡ Lift p n → 3 ≤ length (join tab ps)
+long_enough : (rules : Rules) (ps : Parts) (p n : ℕ) → form_of rules ps ≡ Lift p n → 5 ≤ length (join tab ps)
 unfolding form_of join
 long_enough rules (last k) p n e = no_lift (bare rules (letter_of k)) p n (bare_other rules (letter_of k)) e
-long_enough rules (part k (last f)) p n e = let z = one_long rules k f p n e in omega (arith, length-append k (tab ∷ f), z.0, z.1)
+long_enough rules (part k (last f)) p n e = no_lift (one_number rules (letter_of k) (decimal f)) p n (one_other rules (letter_of k) (decimal f)) e
 long_enough rules (part k (part f (last g))) p n e =
     let z = two_long k f g p n e in omega (arith, length-append k (tab ∷ (f ++ (tab ∷ g))), length-append f (tab ∷ g), z.0, z.1, z.2)
 long_enough rules (part k (part f (part g fs))) p n e = no_lift Bad p n refl e
 
-line_long : (rules : Rules) (l : List ℕ) (p n : ℕ) → line_of rules l ≡ Lift p n → 3 ≤ length l
+line_long : (rules : Rules) (l : List ℕ) (p n : ℕ) → line_of rules l ≡ Lift p n → 5 ≤ length l
 unfolding line_of
 line_long rules l p n e = rw (join_split tab l) at (long_enough rules (split tab l) p n e)
 
--- the line after a lift line begins at least 4 bytes on, within the sheet
-pub lift_line_long : (rules : Rules) (sheet : List ℕ) (at p n : ℕ) → (line_at rules sheet at).line ≡ Lift p n → (at + 4 ≤ (line_at rules sheet at).next) × ((line_at rules sheet at).next ≤ length sheet)
+-- the line after a lift line begins at least 6 bytes on, within the sheet
+pub lift_line_long : (rules : Rules) (sheet : List ℕ) (at p n : ℕ) → (line_at rules sheet at).line ≡ Lift p n → (at + 6 ≤ (line_at rules sheet at).next) × ((line_at rules sheet at).next ≤ length sheet)
 unfolding line_at join
 lift_line_long rules sheet at p n e = go (split line_feed (drop at sheet)) (join_split line_feed (drop at sheet)) e
   where
-    go : (ps : Parts) → join line_feed ps ≡ drop at sheet → (first_line rules at ps).line ≡ Lift p n → (at + 4 ≤ (first_line rules at ps).next) × ((first_line rules at ps).next ≤ length sheet)
+    go : (ps : Parts) → join line_feed ps ≡ drop at sheet → (first_line rules at ps).line ≡ Lift p n → (at + 6 ≤ (first_line rules at ps).next) × ((first_line rules at ps).next ≤ length sheet)
     go (last l) j e = no_lift Bad p n refl e
     go (part l ls) j e =
         let z = line_long rules l p n e in
         (omega arith, omega (arith, ap length j, length-append l (line_feed ∷ join line_feed ls), length-drop at sheet))
 
-pub lifts_most : (rules : Rules) (sheet : List ℕ) (at : ℕ) (ms : List LiftLine) (to : ℕ) → at ≤ length sheet → LiftsTo rules sheet at ms to → at + 4 * length ms ≤ length sheet
+pub lifts_most : (rules : Rules) (sheet : List ℕ) (at : ℕ) (ms : List LiftLine) (to : ℕ) → at ≤ length sheet → LiftsTo rules sheet at ms to → at + 6 * length ms ≤ length sheet
 unfolding LiftsTo
 lifts_most rules sheet at [] to h z = omega arith
 lifts_most rules sheet at (m ∷ ms) to h z =
-    let w = lift_line_long rules sheet at m.position z.0.0 z.0.1 in
+    let w = lift_line_long rules sheet at m.position m.levels z.0 in
     omega (arith, w.0, w.1, lifts_most rules sheet (line_at rules sheet at).next ms to w.1 z.2)
 
-pub lifts_few : (rules : Rules) (sheet : List ℕ) (at : ℕ) (ms : List LiftLine) (to : ℕ) → LiftsTo rules sheet at ms to → 4 * length ms ≤ length sheet
+pub lifts_few : (rules : Rules) (sheet : List ℕ) (at : ℕ) (ms : List LiftLine) (to : ℕ) → LiftsTo rules sheet at ms to → 6 * length ms ≤ length sheet
 unfolding LiftsTo
 lifts_few rules sheet at [] to z = omega arith
 lifts_few rules sheet at (m ∷ ms) to z =
-    let w = lift_line_long rules sheet at m.position z.0.0 z.0.1 in
+    let w = lift_line_long rules sheet at m.position m.levels z.0 in
     omega (arith, lifts_most rules sheet at (m ∷ ms) to (omega (arith, w.0, w.1)) z)

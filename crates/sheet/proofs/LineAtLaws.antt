@@ -46,14 +46,14 @@ pub line_at_range : (rules : Rules) → rules.last_group ≤ most_group → (s :
 unfolding line_at
 line_at_range rules m s at = first_range rules m at (split line_feed (drop at s))
 
-first_alike : (r s : Rules) → r.last_group ≡ s.last_group → r.intersections ≡ s.intersections → r.short_lifts ≡ s.short_lifts → (at : ℕ) (ps : Parts) → first_line r at ps ≡ first_line s at ps
-first_alike r s e f g at (last l) = refl
-first_alike r s e f g at (part l ls) = rw (forms_alike r s e f g l)
+first_alike : (r s : Rules) → r.last_group ≡ s.last_group → r.intersections ≡ s.intersections → (at : ℕ) (ps : Parts) → first_line r at ps ≡ first_line s at ps
+first_alike r s e f at (last l) = refl
+first_alike r s e f at (part l ls) = rw (forms_alike r s e f l)
 
 -- and depend on the last group and on whether `I` may stand only
-pub line_at_alike : (r s : Rules) → r.last_group ≡ s.last_group → r.intersections ≡ s.intersections → r.short_lifts ≡ s.short_lifts → (bytes : List ℕ) (at : ℕ) → line_at r bytes at ≡ line_at s bytes at
+pub line_at_alike : (r s : Rules) → r.last_group ≡ s.last_group → r.intersections ≡ s.intersections → (bytes : List ℕ) (at : ℕ) → line_at r bytes at ≡ line_at s bytes at
 unfolding line_at
-line_at_alike r s e f g bytes at = first_alike r s e f g at (split line_feed (drop at bytes))
+line_at_alike r s e f bytes at = first_alike r s e f at (split line_feed (drop at bytes))
 
 -- one line more: it takes a byte at least, and reading goes on after it or stops with its fault
 pub record OneLine (rules : Rules) (s : List ℕ) (at : ℕ) (here : LineAt) : Type 0 where

@@ -5,18 +5,18 @@ use mathlib.Core.Bool.{Bool, true, false, cond, true≢false}
 use mathlib.Core.List.{List, [], ◌∷◌}
 use Prim.Native.Nat.{ℕ, ◌+◌, ◌≤◌, ◌<◌}
 use native.Mathlib.Omega.{arith}
-use borrow.Author.Tests.{eqb-true, leb-true, leb-false, ltb-true, ltb-false}
+use borrow.Author.Tests.{eqb-true, leb-true, leb-false}
 use lib.Dec.{eqb, ltb}
 use lib.ListN.{length, length-append}
 use Rattle.text.specs.Parts.{Parts, last, part, split}
 use Rattle.text.specs.Line.{line_feed}
 use Rattle.sheet.specs.Form.{line_of}
-use Rattle.sheet.specs.Rules.{Rules, Stricter, with_levels, base_rules, earlier_rules, two_operator_rules, several_rules, sheet_rules}
+use Rattle.sheet.specs.Rules.{Rules, Stricter, base_rules, earlier_rules, two_operator_rules, sheet_rules}
 use Rattle.sheet.specs.Reading.{most_bytes, ReadingState, trees, first_fault, order_fault, is_full, fault_of, state_after, nothing_read, ReadingOutcome, accepted, refused, read_lines, read_with}
 use Rattle.sheet.specs.declared.Line.{Line}
 use Rattle.sheet.specs.declared.Line.TheVariants.{Group, Operator, Lift, Mark, End, Bad}
 use Rattle.sheet.proofs.SoundLaws.{order_none, none_of, bad_fault, group_none, operator_none}
-use Rattle.sheet.proofs.FormLaws.{Forms, same_form, unknown_group, unknown_operator, unknown_lift, forms}
+use Rattle.sheet.proofs.FormLaws.{Forms, same_form, unknown_group, unknown_operator, forms}
 use Rattle.sheet.proofs.AcceptedLaws.{no_outcome}
 
 -- what holds after so many lines without fault, where n nodes are allowed: while the tree is read, each line is a node
@@ -41,24 +41,20 @@ passed_next rules st lines End after e P = record { within = P.within; counted =
 
 -- ---- rules and looser ones
 -- what they come to: the same, or the stricter ones refuse the node after their last (5), a group after their last (2), a lift or a
--- mark (3), an `I` (2), a lift of a position alone (2) or one of more levels (31)
+-- mark (3), or an `I` (2)
 pub data Outcomes (few more : Rules) (o p : ReadingOutcome) : Type 0 where
   same : o ≡ p → Outcomes few more o p
   no_node : few.nodes < more.nodes → o ≡ refused 5 (few.nodes + 1) → Outcomes few more o p
   no_group : few.last_group < more.last_group → (line : ℕ) → o ≡ refused 2 line → Outcomes few more o p
   no_task : few.tasks ≡ false → more.tasks ≡ true → (line : ℕ) → o ≡ refused 3 line → Outcomes few more o p
   no_intersection : few.intersections ≡ false → more.intersections ≡ true → (line : ℕ) → o ≡ refused 2 line → Outcomes few more o p
-  no_short_lift : few.short_lifts ≡ false → more.short_lifts ≡ true → (line : ℕ) → o ≡ refused 2 line → Outcomes few more o p
-  no_levels : few.levels < more.levels → (line : ℕ) → o ≡ refused 31 line → Outcomes few more o p
 
 module _ (few more : Rules) (h : Stricter few more) where
-  -- a line's fault by both: the same; or by the stricter ones alone 5, of a line in its place when the tree is full, 3, of a task,
-  -- or 31, of a lift
+  -- a line's fault by both: the same; or by the stricter ones alone 5, of a line in its place when the tree is full, or 3, of a task
   data Faults (st : ReadingState) (f g : ℕ) : Type 0 where
     alike : f ≡ g → Faults st f g
     full : f ≡ 5 → order_fault st.phase (length (trees st.entries)) 0 ≡ 0 → few.nodes ≤ length st.entries → few.nodes < more.nodes → Faults st f g
     task : f ≡ 3 → few.tasks ≡ false → more.tasks ≡ true → Faults st f g
-    several : f ≡ 31 → few.levels < more.levels → Faults st f g
 
   -- of a tree line; `early` says whether it gets 4
   tree_line : (st : ReadingState) (early : Bool) (rest : ℕ)
@@ -78,24 +74,7 @@ module _ (few more : Rules) (h : Stricter few more) where
       go false true p false q true r = absurd (omega (arith, leb-false, leb-true, h.nodes))
       go false true p false q false r = alike refl
 
-  -- of a lift of n levels, where `order` is its fault before those by kind
-  lift_line : (st : ReadingState) (order n : ℕ)
-      → let fault : Rules → ℕ = λ r. first_fault (cond r.tasks 0 3) (first_fault order (cond (ltb r.levels n) 31 0)) in
-      Faults st (fault few) (fault more)
-  lift_line st order n = go few.tasks refl more.tasks refl (eqb order 0) (ltb few.levels n) refl (ltb more.levels n) refl
-    where
-      go : (a : Bool) → few.tasks ≡ a → (b : Bool) → more.tasks ≡ b → (z : Bool) (x : Bool) → ltb few.levels n ≡ x → (y : Bool) → ltb more.levels n ≡ y
-          → Faults st (first_fault (cond a 0 3) (cond z (cond x 31 0) order)) (first_fault (cond b 0 3) (cond z (cond y 31 0) order))
-      go true p false q z x e y f = absurd (true≢false (sym (h.tasks p) ∙ q))
-      go false p true q z x e y f = task refl p q
-      go false p false q z x e y f = alike refl
-      go true p true q false x e y f = alike refl
-      go true p true q true true e true f = alike refl
-      go true p true q true true e false f = several refl (omega (arith, ltb-true few.levels n e, ltb-false more.levels n f))
-      go true p true q true false e true f = absurd (omega (arith, ltb-false few.levels n e, ltb-true more.levels n f, h.levels))
-      go true p true q true false e false f = alike refl
-
-  -- of a mark; `rest` is its fault where tasks may stand
+  -- of a lift or a mark; `rest` is its fault where tasks may stand
   task_line : (st : ReadingState) (rest : ℕ) → Faults st (first_fault (cond few.tasks 0 3) rest) (first_fault (cond more.tasks 0 3) rest)
   task_line st rest = go few.tasks refl more.tasks refl
     where
@@ -110,7 +89,7 @@ module _ (few more : Rules) (h : Stricter few more) where
   faults st Bad = alike refl
   faults st (Group g) = tree_line st false _
   faults st (Operator x) = tree_line st (ltb (length (trees st.entries)) 2) 0
-  faults st (Lift p m) = lift_line st (order_fault st.phase (length (trees st.entries)) 1) m
+  faults st (Lift p m) = task_line st _
   faults st (Mark g) = task_line st _
   faults st End = alike refl
 
@@ -127,7 +106,6 @@ module _ (few more : Rules) (h : Stricter few more) where
       let z : lines ≡ few.nodes = omega (arith, P.counted (omega (arith, k)), P.within, l) in
       no_node m (rw (e, z))
   line_outcomes st lines f g o p P (task e a b) next = no_task a b (lines + 1) (rw e)
-  line_outcomes st lines f g o p P (several e l) next = no_levels l (lines + 1) (rw e)
 
   abbrev LinesOutcomes : Parts → Type 0
   LinesOutcomes ps = (st : ReadingState) (lines at : ℕ) → Passed few.nodes st lines → Outcomes few more (read_lines few st lines at ps) (read_lines more st lines at ps)
@@ -135,7 +113,7 @@ module _ (few more : Rules) (h : Stricter few more) where
   lines_outcomes : (ps : Parts) → LinesOutcomes ps
   unfolding read_lines fault_of
   lines_outcomes (last l) st lines at P = same refl
-  lines_outcomes (part l ls) st lines at P = go (lines_outcomes ls) (forms few more h.last_group h.intersections h.short_lifts l)
+  lines_outcomes (part l ls) st lines at P = go (lines_outcomes ls) (forms few more h.last_group h.intersections l)
     where
       go : LinesOutcomes ls → Forms few more (line_of few l) (line_of more l) → Outcomes few more (read_lines few st lines at (part l ls)) (read_lines more st lines at (part l ls))
       go later (same_form e) =
@@ -143,7 +121,6 @@ module _ (few more : Rules) (h : Stricter few more) where
           (λ z. later _ (lines + 1) _ (passed_next few st lines (line_of few l) _ z P)))
       go later (unknown_group m e) = no_group m (lines + 1) (rw e)
       go later (unknown_operator a b e) = no_intersection a b (lines + 1) (rw e)
-      go later (unknown_lift a b e) = no_short_lift a b (lines + 1) (rw e)
 
   pub two_rules : (s : List ℕ) → Outcomes few more (read_with few s) (read_with more s)
   unfolding read_with
@@ -163,26 +140,14 @@ module _ (few more : Rules) (h : Stricter few more) where
       go (no_group l line q) = no_outcome (sym q ∙ e)
       go (no_task a b line q) = no_outcome (sym q ∙ e)
       go (no_intersection a b line q) = no_outcome (sym q ∙ e)
-      go (no_short_lift a b line q) = no_outcome (sym q ∙ e)
-      go (no_levels l line q) = no_outcome (sym q ∙ e)
 
 -- ---- the rules from request to request: request 1 has fewer nodes than 01, request 4 more groups than were there until then, request 6
--- a third operator, request 11 lifts of one level, with a position alone
+-- a third operator
 pub fewer_nodes : Stricter earlier_rules base_rules
-fewer_nodes = record { nodes = omega arith; last_group = omega arith; tasks = λ _. refl; intersections = λ e. e; short_lifts = λ e. e; levels = omega arith }
+fewer_nodes = record { nodes = omega arith; last_group = omega arith; tasks = λ _. refl; intersections = λ e. e }
 
--- the same rules with lifts of one level only allow less
-pub one_level : (rules : Rules) → 1 ≤ rules.levels → Stricter (with_levels 1 rules) rules
-one_level rules h = record { nodes = omega arith; last_group = omega arith; tasks = λ e. e; intersections = λ e. e; short_lifts = λ e. e; levels = h }
+pub more_groups : Stricter earlier_rules sheet_rules
+more_groups = record { nodes = omega arith; last_group = omega arith; tasks = λ _. refl; intersections = λ _. refl }
 
-pub one_level_nodes : Stricter (with_levels 1 earlier_rules) base_rules
-one_level_nodes = record { nodes = omega arith; last_group = omega arith; tasks = λ _. refl; intersections = λ e. e; short_lifts = λ e. e; levels = omega arith }
-
-pub more_groups : Stricter (with_levels 1 earlier_rules) sheet_rules
-more_groups = record { nodes = omega arith; last_group = omega arith; tasks = λ _. refl; intersections = λ _. refl; short_lifts = λ _. refl; levels = omega arith }
-
-pub third_operator : Stricter (with_levels 1 two_operator_rules) sheet_rules
-third_operator = record { nodes = omega arith; last_group = omega arith; tasks = λ _. refl; intersections = λ _. refl; short_lifts = λ _. refl; levels = omega arith }
-
-pub short_lifts_lem : Stricter (with_levels 1 several_rules) sheet_rules
-short_lifts_lem = record { nodes = omega arith; last_group = omega arith; tasks = λ _. refl; intersections = λ _. refl; short_lifts = λ _. refl; levels = omega arith }
+pub third_operator : Stricter two_operator_rules sheet_rules
+third_operator = record { nodes = omega arith; last_group = omega arith; tasks = λ _. refl; intersections = λ _. refl }

@@ -50,7 +50,7 @@ module _ (rules : Rules) (none : rules.intersections ≡ false) (most : rules.la
   line_adds = each_line rules AddsNone (record {
     group = λ g h st after w. entered_without st.entries g (λ e. omega (arith, leb-true g rules.last_group (and_both (leb 1 g) (leb g rules.last_group) h).1)) w;
     operator = λ o may st after w. entered_without st.entries (sign o) (λ e. true≢false (sym (may e) ∙ none)) w;
-    lift = λ p n h st after w. w;
+    lift = λ p n h k st after w. w;
     mark = λ g h st after w. w;
     end = λ st after w. w;
     bad = λ st after w. w;

@@ -63,13 +63,12 @@ bare rules kind =
     (cond (eqb kind (letter_for difference)) (Operator (sign difference))
     (cond (eqb kind (letter_for intersection) && rules.intersections) (Operator (sign intersection)) (cond (eqb kind letter_e) End Bad)))
 
--- "`G` group"; "`K` group ..: a mark.": from 1 to the rules' last one; request 11: "A lift line is `L` and a position", where the rules have it: by one level
+-- "`G` group"; "`K` group ..: a mark.": from 1 to the rules' last one
 abbrev pub one_number : Rules → ℕ → Option ℕ → Line
 one_number rules kind n =
-    cond (eqb kind letter_g) (ranged (is_up_to rules.last_group) Group n) (cond (eqb kind letter_k) (ranged (is_up_to rules.last_group) Mark n)
-    (cond (eqb kind letter_l && rules.short_lifts) (ranged is_position (λ p. Lift p 1) n) Bad))
+    cond (eqb kind letter_g) (ranged (is_up_to rules.last_group) Group n) (cond (eqb kind letter_k) (ranged (is_up_to rules.last_group) Mark n) Bad)
 
--- "`L` position (0 to 8190) levels (1 to 99): a lift."; request 11: "An old line with levels 1 is read as the new form" (for one with more see `kind_fault`)
+-- "`L` position (0 to 8190) levels (1 to 99): a lift."
 abbrev pub two_numbers : ℕ → Option ℕ → Option ℕ → Line
 two_numbers kind p n = cond (eqb kind letter_l) (ranged is_position (λ p. ranged is_levels (λ n. Lift p n) n) p) Bad
 

@@ -20,7 +20,7 @@ abbrev pub InRange : Line → Type 0
 InRange Bad = Unit {0}
 InRange (Group g) = is_group g ≡ true
 InRange (Operator x) = (o : TreeOperator) × (x ≡ sign o)
-InRange (Lift p n) = LiftRange (record { position = p })
+InRange (Lift p n) = LiftRange (record { position = p; levels = n })
 InRange (Mark g) = is_group g ≡ true
 InRange End = Unit {0}
 
@@ -64,10 +64,10 @@ abbrev pub Leads : Line → ℕ → Progress → List ℕ → List ℕ → List 
 Leads l after p tree groups marks r tree' groups' marks' =
     (rules : Rules) (st : ReadingState) → InRange l → Holds rules st p tree groups marks → AfterLine rules st l after p r tree' groups' marks'
 
--- the same, by rules with tasks or without and with lifts of one level
+-- the same, by rules with tasks or without
 abbrev pub LeadsIf : Bool → Line → ℕ → Progress → List ℕ → List ℕ → List ℕ → Progress → List ℕ → List ℕ → List ℕ → Type 0
 LeadsIf tasks l after p tree groups marks r tree' groups' marks' =
-    (rules : Rules) (st : ReadingState) → rules.tasks ≡ tasks → rules.levels ≡ 1 → InRange l → Holds rules st p tree groups marks
+    (rules : Rules) (st : ReadingState) → rules.tasks ≡ tasks → InRange l → Holds rules st p tree groups marks
     → AfterLine rules st l after p r tree' groups' marks'
 
 -- r and the arrays are those of an accepted sheet: no fault, the state's numbers, its entries and its marks, and 0 past their ends

@@ -5,7 +5,7 @@ use Rattle.text.specs.Parts.{Parts, last, part, split}
 use Rattle.text.specs.Line.{line_feed}
 use Rattle.sheet.specs.declared.Line.TheVariants.{Bad, Lift}
 use Rattle.sheet.specs.declared.LineAt.{LineAt}
-use Rattle.sheet.specs.Form.{line_of, most_position}
+use Rattle.sheet.specs.Form.{line_of, most_position, most_levels}
 use Rattle.sheet.specs.Rules.{Rules}
 use Rattle.sheet.specs.Reading.{LiftLine}
 
@@ -17,12 +17,14 @@ first_line rules at (part l ls) = record { line = line_of rules l; next = at + l
 unfoldable pub line_at : Rules → List ℕ → ℕ → LineAt
 line_at rules sheet at = first_line rules at (split line_feed (drop at sheet))
 
--- a lift's position is in its range
+-- a lift's numbers are in their ranges
 pub record LiftRange (m : LiftLine) : Type 0 where
   pub position_most : m.position ≤ most_position
+  pub levels_least : 1 ≤ m.levels
+  pub levels_most : m.levels ≤ most_levels
 
 -- reading the line at the byte `from`, then the line after it, and so on gives these lifts, and then the byte `to` is reached
 unfoldable pub LiftsTo : Rules → List ℕ → ℕ → List LiftLine → ℕ → Type 0
 LiftsTo rules sheet from [] to = from ≡ to
 LiftsTo rules sheet from (m ∷ ms) to =
-    ((n : ℕ) × ((line_at rules sheet from).line ≡ Lift m.position n)) × LiftRange m × LiftsTo rules sheet (line_at rules sheet from).next ms to
+    ((line_at rules sheet from).line ≡ Lift m.position m.levels) × LiftRange m × LiftsTo rules sheet (line_at rules sheet from).next ms to

@@ -16,9 +16,10 @@ use Rattle.sheet.specs.declared.Sheet.{Sheet}
 abbrev pub most_bytes : ℕ
 most_bytes = 60000
 
--- request 11: "A lift line is `L` and a position."
+-- "`L` position .. levels ..: a lift"
 pub record LiftLine : Type 0 where
   pub position : ℕ
+  pub levels : ℕ
 
 -- What has been read: the tree's entries and different groups, the marks and the lifts, all in sheet order, and the byte
 -- after the tree lines. `phase` is the place of the last line: lines of a lower place may no longer come.
@@ -84,12 +85,12 @@ abbrev pub is_full : Rules → ReadingState → Bool
 is_full rules st = leb rules.nodes (length st.entries)
 
 -- "then by kind, in this order: 4 `U` or `D` with fewer than two trees waiting; 5 .. node; 6 a ninth different group; 8 a mark of a
--- group not in the tree; 9 a mark twice"; request 6: "4 covers `I`"; request 11: "One with more levels is refused with 31 at that line, after 3 and 7 have been considered"
+-- group not in the tree; 9 a mark twice"; request 6: "4 covers `I`"
 abbrev pub kind_fault : Rules → ReadingState → Line → ℕ
 kind_fault rules st (Operator x) = cond (ltb (length (trees st.entries)) 2) 4 (cond (is_full rules st) 5 0)
 kind_fault rules st (Group g) = cond (is_full rules st) 5 (cond (not (is_in st.groups g) && leb most_groups (length st.groups)) 6 0)
 kind_fault rules st (Mark g) = cond (is_in st.groups g) (cond (is_in st.marks g) 9 0) 8
-kind_fault rules st (Lift p n) = cond (ltb rules.levels n) 31 0
+kind_fault rules st (Lift p n) = 0
 kind_fault rules st End = 0
 kind_fault rules st Bad = 0
 
@@ -113,7 +114,7 @@ with_phase st phase marks lifts = record { phase = phase; entries = st.entries; 
 abbrev pub state_after : ReadingState → Line → ℕ → ReadingState
 state_after st (Group g) after = entered st g (with_new st.groups g) after
 state_after st (Operator x) after = entered st x st.groups after
-state_after st (Lift p n) after = with_phase st (place (Lift p n)) st.marks (st.lifts ++ (record { position = p } ∷ []))
+state_after st (Lift p n) after = with_phase st (place (Lift p n)) st.marks (st.lifts ++ (record { position = p; levels = n } ∷ []))
 state_after st (Mark g) after = with_phase st (place (Mark g)) (st.marks ++ (g ∷ [])) st.lifts
 state_after st End after = with_phase st ended st.marks st.lifts
 state_after st Bad after = st

@@ -11,34 +11,22 @@ pub record Rules : Type 0 where
   pub tasks : Bool
   -- whether `I` may stand in it
   pub intersections : Bool
-  -- whether `L` with a position alone is a lift
-  pub short_lifts : Bool
-  -- the most levels that a lift may have
-  pub levels : ℕ
 
 -- the same rules with another number of nodes
 abbrev pub with_nodes : ℕ → Rules → Rules
-with_nodes n rules = record { nodes = n; last_group = rules.last_group; tasks = rules.tasks; intersections = rules.intersections; short_lifts = rules.short_lifts; levels = rules.levels }
+with_nodes n rules = record { nodes = n; last_group = rules.last_group; tasks = rules.tasks; intersections = rules.intersections }
 
 -- the same rules with another last group
 abbrev pub with_last_group : ℕ → Rules → Rules
-with_last_group g rules = record { nodes = rules.nodes; last_group = g; tasks = rules.tasks; intersections = rules.intersections; short_lifts = rules.short_lifts; levels = rules.levels }
+with_last_group g rules = record { nodes = rules.nodes; last_group = g; tasks = rules.tasks; intersections = rules.intersections }
 
 -- the same rules with tasks or without
 abbrev pub with_tasks : Bool → Rules → Rules
-with_tasks b rules = record { nodes = rules.nodes; last_group = rules.last_group; tasks = b; intersections = rules.intersections; short_lifts = rules.short_lifts; levels = rules.levels }
+with_tasks b rules = record { nodes = rules.nodes; last_group = rules.last_group; tasks = b; intersections = rules.intersections }
 
 -- the same rules with `I` or without
 abbrev pub with_intersections : Bool → Rules → Rules
-with_intersections b rules = record { nodes = rules.nodes; last_group = rules.last_group; tasks = rules.tasks; intersections = b; short_lifts = rules.short_lifts; levels = rules.levels }
-
--- the same rules with lifts of a position alone or without
-abbrev pub with_short_lifts : Bool → Rules → Rules
-with_short_lifts b rules = record { nodes = rules.nodes; last_group = rules.last_group; tasks = rules.tasks; intersections = rules.intersections; short_lifts = b; levels = rules.levels }
-
--- the same rules with other levels
-abbrev pub with_levels : ℕ → Rules → Rules
-with_levels n rules = record { nodes = rules.nodes; last_group = rules.last_group; tasks = rules.tasks; intersections = rules.intersections; short_lifts = rules.short_lifts; levels = n }
+with_intersections b rules = record { nodes = rules.nodes; last_group = rules.last_group; tasks = rules.tasks; intersections = b }
 
 -- `more` allow whatever `few` allow
 pub record Stricter (few more : Rules) : Type 0 where
@@ -46,13 +34,11 @@ pub record Stricter (few more : Rules) : Type 0 where
   pub last_group : few.last_group ≤ more.last_group
   pub tasks : few.tasks ≡ true → more.tasks ≡ true
   pub intersections : few.intersections ≡ true → more.intersections ≡ true
-  pub short_lifts : few.short_lifts ≡ true → more.short_lifts ≡ true
-  pub levels : few.levels ≤ more.levels
 
 -- the rules of 01 for a sheet: "group (1 to 9999)", "the tree, at most 1,023 nodes and 8 different groups" (the 8 are `most_groups` of
--- `tree` specs/Tree.antt, to this day); "`L` position (0 to 8190) levels (1 to 99)"
+-- `tree` specs/Tree.antt, to this day)
 abbrev pub base_rules : Rules
-base_rules = record { nodes = 1023; last_group = 9999; tasks = true; intersections = false; short_lifts = false; levels = 99 }
+base_rules = record { nodes = 1023; last_group = 9999; tasks = true; intersections = false }
 
 -- those until request 4, with request 1: "The tree of a sheet is limited to 255 nodes"
 abbrev pub earlier_rules : Rules
@@ -62,13 +48,9 @@ earlier_rules = with_nodes 255 base_rules
 abbrev pub two_operator_rules : Rules
 two_operator_rules = with_last_group most_group earlier_rules
 
--- those until request 11, with request 6: "The sheet gains `I`, a third operator"
-abbrev pub several_rules : Rules
-several_rules = with_intersections true two_operator_rules
-
--- today's, with request 11: "A lift line is `L` and a position. An old line with levels 1 is read as the new form. One with more levels is refused"
+-- today's, with request 6: "The sheet gains `I`, a third operator"
 abbrev pub sheet_rules : Rules
-sheet_rules = with_levels 1 (with_short_lifts true several_rules)
+sheet_rules = with_intersections true two_operator_rules
 
 -- request 5: "The candidate's file is read by the sheet rules, except that its tree may have 8,191 nodes, with 5 at the one after; a lift
 -- or a mark in it is out of its place."

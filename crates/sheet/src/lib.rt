@@ -14,7 +14,7 @@ ghost use Rattle.sheet.specs.InnerDrawing.{drawing_of, accepted_drawing};
 
 use tree::{MOST_GROUPS, MOST_NODES};
 
-// 01's limits; that of a sheet's nodes is 02's, request 1, and that a lift has one level, request 11.
+// 01's limits; that of a sheet's nodes is 02's, request 1.
 pub const MOST_BYTES: usize = 60000;
 
 // As many bytes of a file as are enough to refuse it or to read it whole: one more than it may have.
@@ -28,9 +28,7 @@ pub const LEAST_LEVELS: u16 = 1;
 
 pub const MOST_LEVELS: u16 = 99;
 
-pub const LIFT_LEVELS: u16 = 1;
-
-// 01's numbers of refusal; the last is 02's, request 11.
+// 01's numbers of refusal.
 pub const TOO_MANY_BYTES: u8 = 1;
 
 pub const NO_FORM: u8 = 2;
@@ -50,8 +48,6 @@ pub const UNKNOWN_MARK: u8 = 8;
 pub const MARK_TWICE: u8 = 9;
 
 pub const NO_END: u8 = 10;
-
-pub const SEVERAL_LEVELS: u8 = 31;
 
 // A line by its form: a group, an operator as a tree's list has it, a lift's position and levels, a mark, the end, or none.
 #[derive(Drop)]
@@ -105,12 +101,6 @@ fn one_number(kind: u8, n: u16) -> Line
             return Line::Mark(n);
         }
         return Line::Bad;
-    }
-    if kind == b'L' {
-        if MOST_POSITION < n {
-            return Line::Bad;
-        }
-        return Line::Lift(n, LIFT_LEVELS);
     }
     Line::Bad
 }
@@ -314,16 +304,13 @@ fn operator_step(p: Progress, x: u16, after: usize, tree: &mut [u16]) -> Progres
 }
 
 // Reads a line with a lift.
-fn lift_step(p: Progress, levels: u16) -> Progress
+fn lift_step(p: Progress) -> Progress
     requires { (p.line < most_bytes) × (p.lifts ≤ p.line) }
-    ensures { (position after : ℕ) (es gs ms : List ℕ) → LeadsIf true (Line.Lift position levels) after p es gs ms result es gs ms }
+    ensures { (position levels after : ℕ) (es gs ms : List ℕ) → LeadsIf true (Line.Lift position levels) after p es gs ms result es gs ms }
 {
     let fault = order_fault(p.phase, p.waiting, LIFTS);
     if fault != 0 {
         return faulty(p, fault);
-    }
-    if LIFT_LEVELS < levels {
-        return faulty(p, SEVERAL_LEVELS);
     }
     let mut q = p;
     q.line = p.line + 1;
@@ -395,7 +382,7 @@ fn step(
         Line::Bad => faulty(p, NO_FORM),
         Line::Group(g) => group_step(p, g, after, tree, groups),
         Line::Operator(x) => operator_step(p, x, after, tree),
-        Line::Lift(_, levels) => lift_step(p, levels),
+        Line::Lift(_, _) => lift_step(p),
         Line::Mark(g) => mark_step(p, g, groups, marks),
         Line::End => end_step(p),
     }

@@ -50,7 +50,7 @@ fn show_list(name: &[u8], list: &[u16], count: usize) {
 
 // The report's example, with its tree's first entries and its marks.
 pub fn example() {
-    let bytes = b"G\t1\nG\t2\nD\nG\t3\nD\nG\t4\nU\nG\t5\nD\nL\t0\nL\t0\nK\t3\nK\t2\nE\n";
+    let bytes = b"G\t1\nG\t2\nD\nG\t3\nD\nG\t4\nU\nG\t5\nD\nL\t0\t2\nK\t3\nK\t2\nE\n";
     show(b"example", bytes);
     let r = sheet::read(bytes);
     let tree = r.tree;

@@ -20,7 +20,7 @@ use Rattle.moves.specs.InnerEntries.{optional_number, entry_of, only_t}
 use Rattle.words.proofs.FormulaLaws.{both, agree_at, Replaces, above_level}
 use Rattle.moves.proofs.MoveLaws.{formula_t, formula_t_with_d, frames_t, frames_t_with_d, RightMove, Right, ours_right, alone_number}
 use Rattle.words.proofs.EntryLaws.{plain, value_plain, without_evaluate, evaluate_without, evaluate, entry_same, evaluate_selects, over_evaluate, evaluate_over}
-use Rattle.step.specs.Step.{Outcome, high, stuck, blocked, moved, needs, step_by, move_at, step}
+use Rattle.step.specs.Step.{Outcome, stuck, blocked, moved, needs, step_by, move_at, step}
 
 -- ---- what a step does: an entry takes the place of a left side for which it may stand
 pub record Makes (c e : List Frame) : Type 0 where
@@ -35,7 +35,6 @@ pub record Makes (c e : List Frame) : Type 0 where
   pub is : e ≡ frames_of b c' d entry ++ r
 
 abbrev Made : List Frame → Outcome → Type 0
-Made c high = Unit {0}
 Made c stuck = Unit {0}
 Made c blocked = Unit {0}
 Made c (moved e) = Makes c e

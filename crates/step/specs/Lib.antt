@@ -1,2 +1,3 @@
 pub mod Step
+pub mod InnerStanding
 pub mod InnerSteps

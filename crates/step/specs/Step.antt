@@ -6,10 +6,8 @@ use Rattle.tree.specs.Context.{Frame, frame}
 use Rattle.moves.specs.Moves.{State, Move, replace_t, replace_t_with_d, MoveTable, ours, basic, state_with, input_with}
 use Rattle.words.specs.Formula.{frames_of}
 
--- no step because A is the root or at level 1 (01's number 14), for want of a D (15) or because of an `I` (27, of request 6); or the new frames
--- above A
+-- no step (01's number 15), none because of an `I` (27, of request 6), or the new frames above A
 pub data Outcome : Type 0 where
-  high : Outcome
   stuck : Outcome
   blocked : Outcome
   moved : List Frame → Outcome
@@ -32,8 +30,8 @@ abbrev pub move_at : MoveTable → List Frame → State → Move
 move_at m [] x = ours x
 move_at m (f ∷ r) x = m x
 
--- the step of the part whose context is given, by a table
+-- the step of the part whose context is given, by a table; "15 the step .. has no grandparent": at level 0 or 1, where a lift is refused with 14 before
 unfoldable pub step : MoveTable → List Frame → Outcome
-step m [] = high
-step m (f ∷ []) = high
+step m [] = stuck
+step m (f ∷ []) = stuck
 step m (frame s o b ∷ (frame t q c ∷ r)) = needs (state_with s (basic o) t (basic q)) (λ x. step_by (move_at m r x) b c r)

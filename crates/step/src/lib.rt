@@ -6,11 +6,20 @@ ghost use Rattle.tree.specs.InnerPart.{Part, Located};
 ghost use Rattle.words.specs.Word.{most_signs};
 ghost use Rattle.moves.specs.Moves.{MoveTable};
 ghost use Rattle.moves.specs.InnerEntries.{AloneUpTo, TableIs, SomeTable};
+ghost use Rattle.step.specs.InnerStanding.{StateIs, Standing, Stands};
 ghost use Rattle.step.specs.InnerSteps.{FrameIs, ReplaceIs, Planned, Carries, CarriesSome, PlannedSome, StepIs};
 
 use moves::{LAST_ALONE, NO_INPUT};
 use tree::Above;
 use words::{MOST_SIGNS, Replacement};
+
+// A node of a tree's list: its part's entries, from `from` up to, not including, `to`; and its state, 0 where it has none.
+#[derive(Drop)]
+pub struct Node {
+    pub from: usize,
+    pub to: usize,
+    pub state: usize,
+}
 
 // A stretch of a list: the entries from `from` up to, not including, `to`.
 #[derive(Drop)]
@@ -26,25 +35,22 @@ pub enum Framed {
     Under(u8, Stretch, Stretch),
 }
 
-// What a step does: nothing, where the part is the root or at level 1, for want of a D or because of an intersection; or it replaces the last
-// stretch by the move entry of this state, T alone or T with D, with this input and these stretches of B, C and D.
+// What a step does: nothing, for want of a D or because of an intersection; or it replaces the last stretch by a move entry, T alone or T with D,
+// with this input and these stretches of B, C and D.
 #[derive(Drop)]
 pub enum Plan {
-    High,
     Stuck,
     Blocked,
-    Replace(bool, usize, usize, Stretch, Stretch, Stretch, Stretch),
+    Replace(bool, usize, Stretch, Stretch, Stretch, Stretch),
 }
 
-// A step's answer: the part is the root or at level 1 (14); there is no step (15), or none because of an intersection (27); its result is
-// too long (16); or how many nodes the new tree has, and A's position in it.
+// A step's answer: there is none (15), or none because of an intersection (27); its result is too long (16); or how many nodes the new tree has, and A in it.
 #[derive(Drop)]
 pub enum Stepped {
-    High,
     Stuck,
     Blocked,
     TooLong,
-    Done(usize, usize),
+    Done(usize, Node),
 }
 
 // The innermost frame of a part.
@@ -74,65 +80,71 @@ fn frame_above(list: &[u16], part: Stretch) -> Framed
     }
 }
 
-// What the step of a part is, by a table that replaces T alone in the states up to `last`. The frames above the part give B, C with T, and,
-// where T with D is replaced, D with the input and the stretch of T with D. Where there is no D, our own entries are used.
-fn plan_step(list: &[u16], part: Stretch, last: usize) -> Plan
-    requires { Located list.now part.from part.to }
-    ensures { (m : MoveTable) → AloneUpTo m last → (a : Tree) (c : List Frame) → Part list.now part.from part.to a c
-        → Planned m list.now c result }
+// What the step of a node is, by a table that replaces T alone in the states up to `last`. The frames above the node give B, C with T, and D
+// with the input and the stretch of T with D. Where there is no D, our own entries are used.
+fn plan_step(list: &[u16], node: Node, last: usize) -> Plan
+    requires { Stands list.now node }
+    ensures { (m : MoveTable) → AloneUpTo m last → (a : Tree) (c : List Frame) → Standing list.now node a c
+        → Planned m list.now node c result }
 {
-    let Framed::Under(own, b, parent) = frame_above(list, part) else {
-        return Plan::High;
+    let part = Stretch {
+        from: node.from,
+        to: node.to,
     };
-    let Framed::Under(above, c, t) = frame_above(list, parent) else {
-        return Plan::High; // at level 1
+    let Framed::Under(_, b, parent) = frame_above(list, part) else {
+        return Plan::Stuck;
     };
-    let state = moves::state_of(own, above);
-    if state == 0 {
+    let Framed::Under(_, c, t) = frame_above(list, parent) else {
+        return Plan::Stuck;
+    };
+    if node.state == 0 {
         return Plan::Blocked; // by the parent or the grandparent
     }
-    if state <= last {
-        return Plan::Replace(true, state, NO_INPUT, b, c, c, t); // with a D or without
-    }
     let Framed::Under(kind, d, whole) = frame_above(list, t) else {
-        if state <= LAST_ALONE {
-            return Plan::Replace(true, state, NO_INPUT, b, c, c, t); // at level 2
+        if node.state <= LAST_ALONE {
+            return Plan::Replace(true, NO_INPUT, b, c, c, t);
         }
         return Plan::Stuck;
     };
     let input = kind as usize;
+    if node.state <= last {
+        return Plan::Replace(true, input, b, c, c, t);
+    }
     if NO_INPUT <= input {
         return Plan::Blocked; // by the node above T
     }
-    Plan::Replace(false, state, input, b, c, d, whole)
+    Plan::Replace(false, input, b, c, d, whole)
 }
 
-// Replaces a stretch by what the word of an entry stands for.
+// Replaces a stretch by what the word of an entry stands for. The node's next state is worked out from the word.
 fn carry_out(
     list: &[u16],
-    part: Stretch,
+    node: Node,
     b: Stretch,
     c: Stretch,
     d: Stretch,
     old: Stretch,
     word: &[u8],
     alone: bool,
-    state: usize,
     input: usize,
     out: &mut [u16],
 ) -> Stepped
-    requires carries_some { CarriesSome list.now part alone state input b c d old word.now }
+    requires carries_some { CarriesSome list.now node alone input b c d old word.now }
     requires list_len_bound { (length list.now ≤ most_nodes) × (most_nodes ≤ length out.old) × (length word.now ≤ most_signs) }
-    ensures { (m : MoveTable) (a : Tree) (k : List Frame) → Carries m list.now part a k alone state input b c d old word.now
-        → StepIs m a k result out.old out.new }
+    ensures { (m : MoveTable) (a : Tree) (k : List Frame) → Carries m list.now node a k alone input b c d old word.now
+        → StepIs m a k result out.new }
 {
-    let from = [part.from, b.from, c.from, d.from];
-    let to = [part.to, b.to, c.to, d.to];
+    let from = [node.from, b.from, c.from, d.from];
+    let to = [node.to, b.to, c.to, d.to];
     match words::replace(list, from, to, word, old.from, old.to, out) {
         Replacement::TooLong => Stepped::TooLong,
         Replacement::Done { nodes, from: start } => {
-            let width = part.to - part.from;
-            Stepped::Done(nodes, start + width - 1)
+            let next = Node {
+                from: start,
+                to: start + (node.to - node.from),
+                state: moves::next_state(word, alone, input),
+            };
+            Stepped::Done(nodes, next)
         }
     }
 }
@@ -140,33 +152,32 @@ fn carry_out(
 // The same by the word of the table's entry: ours where T alone is replaced and where no table is given; else that of the table's row.
 fn replace_by(
     list: &[u16],
-    part: Stretch,
+    node: Node,
     b: Stretch,
     c: Stretch,
     d: Stretch,
     old: Stretch,
     alone: bool,
-    state: usize,
     input: usize,
     out: &mut [u16],
     signs: &[u8],
     lengths: &[u8],
 ) -> Stepped
-    requires planned_some { PlannedSome list.now part alone state input b c d old signs.now lengths.now }
+    requires planned_some { PlannedSome list.now node alone input b c d old signs.now lengths.now }
     requires list_len_bound { (length list.now ≤ most_nodes) × (most_nodes ≤ length out.old) }
-    ensures { (m : MoveTable) (a : Tree) (k : List Frame) → TableIs m signs.now lengths.now → Part list.now part.from part.to a k
-        → ReplaceIs m list.now k alone state input b c d old → StepIs m a k result out.old out.new }
+    ensures { (m : MoveTable) (a : Tree) (k : List Frame) → TableIs m signs.now lengths.now → Standing list.now node a k
+        → ReplaceIs m list.now node k alone input b c d old → StepIs m a k result out.new }
 {
     if alone | (lengths.len() == 0) {
-        let entry = moves::move_word(state, input);
-        return carry_out(list, part, b, c, d, old, &entry, alone, state, input, out);
+        let entry = moves::move_word(node.state, input);
+        return carry_out(list, node, b, c, d, old, &entry, alone, input, out);
     }
-    let place = 4 * (state - 1) + input;
+    let place = 4 * (node.state - 1) + input;
     let start = MOST_SIGNS * place;
     let length = lengths[place];
     let end = start + length as usize;
     let row = &signs[start..end];
-    carry_out(list, part, b, c, d, old, row, alone, state, input, out)
+    carry_out(list, node, b, c, d, old, row, alone, input, out)
 }
 
 // The last state in which T alone is replaced, by a table of so many words: without any it is ours.
@@ -180,19 +191,32 @@ fn last_alone(words: usize) -> usize
 }
 
 // One step of a lift, written to `out`, by the table whose words' signs and lengths are given; without any by ours.
-pub fn step(list: &[u16], part: Stretch, out: &mut [u16], signs: &[u8], lengths: &[u8]) -> Stepped
-    requires located { Located list.now part.from part.to × SomeTable signs.now lengths.now }
+pub fn step(list: &[u16], node: Node, out: &mut [u16], signs: &[u8], lengths: &[u8]) -> Stepped
+    requires stands { Stands list.now node × SomeTable signs.now lengths.now }
     requires list_len_bound { (length list.now ≤ most_nodes) × (most_nodes ≤ length out.old) }
-    ensures { (m : MoveTable) → TableIs m signs.now lengths.now → (a : Tree) (c : List Frame) → Part list.now part.from part.to a c
-        → StepIs m a c result out.old out.new }
+    ensures { (m : MoveTable) → TableIs m signs.now lengths.now → (a : Tree) (c : List Frame) → Standing list.now node a c
+        → StepIs m a c result out.new }
 {
     let last = last_alone(lengths.len());
-    match plan_step(list, part, last) {
-        Plan::High => Stepped::High,
+    match plan_step(list, node, last) {
         Plan::Stuck => Stepped::Stuck,
         Plan::Blocked => Stepped::Blocked,
-        Plan::Replace(alone, state, input, b, c, d, old) => replace_by(
-            list, part, b, c, d, old, alone, state, input, out, signs, lengths,
-        ),
+        Plan::Replace(alone, input, b, c, d, old) => {
+            replace_by(list, node, b, c, d, old, alone, input, out, signs, lengths)
+        }
     }
+}
+
+// The state of a part, worked out from the two frames above it; 0 where it has none.
+pub fn first_state(list: &[u16], part: Stretch) -> usize
+    requires { Located list.now part.from part.to }
+    ensures { (a : Tree) (c : List Frame) → Part list.now part.from part.to a c → StateIs c result }
+{
+    let Framed::Under(own, _, parent) = frame_above(list, part) else {
+        return 0;
+    };
+    let Framed::Under(parent_kind, _, _) = frame_above(list, parent) else {
+        return 0;
+    };
+    moves::state_of(own, parent_kind)
 }

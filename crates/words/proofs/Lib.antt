@@ -3,5 +3,6 @@ pub mod Cases
 pub mod FormulaLaws
 pub mod EntryLaws
 pub mod WordLaws
+pub mod AboveLaws
 pub mod ReplaceLaws
 pub mod ReadLaws

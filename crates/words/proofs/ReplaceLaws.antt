@@ -1,5 +1,5 @@
 -- Replacing a stretch of a list by what a word stands for: the new list's length, and that it was written.
-use mathlib.Core.Path.{◌≡◌}
+use mathlib.Core.Path.{◌≡◌, ap, ◌∙◌}
 use mathlib.Core.List.{List}
 use Prim.Native.Nat.{ℕ, ◌+◌, ◌-◌, ◌≤◌}
 use native.Mathlib.Omega.{arith}
@@ -7,7 +7,7 @@ use lib.ListN.{length, take, drop, length-append, length-take, length-drop}
 use lib.Seq.{take_all}
 use Rattle.tree.specs.Tree.{most_nodes}
 use Rattle.tree.specs.InnerWriting.{Wrote}
-use Rattle.tree.proofs.WritingLaws.{wrote_over}
+use Rattle.tree.proofs.WritingLaws.{wrote_take}
 use Rattle.words.specs.InnerWords.{spell, replaced}
 use Rattle.words.specs.InnerReplacing.{Written}
 
@@ -20,5 +20,7 @@ pub replaced_length : (l from to w : List ℕ) (whole end : ℕ) → whole ≤ e
 unfolding replaced
 replaced_length l from to w whole end p q = simp (length-append, length-take, length-drop) (omega arith)
 
-pub written : {out out' xs : List ℕ} {r : ℕ} → Wrote out 0 out' r xs → (nodes : ℕ) → nodes ≡ length xs → nodes ≤ most_nodes → most_nodes ≤ length out → Written xs nodes out out'
-written W nodes e h k = record { length_is = e; short = h; leaves = wrote_over W (omega arith) }
+pub written : {out out' xs : List ℕ} {r : ℕ} → Wrote out 0 out' r xs → (nodes : ℕ) → nodes ≡ length xs → nodes ≤ most_nodes → most_nodes ≤ length out → Written xs nodes out'
+written {out} {out'} {xs} {r} W nodes e h k =
+    let same : nodes ≡ r = omega (arith, W.ends) in
+    record { length_is = e; short = h; entries = ap (λ (n : ℕ). take n out') same ∙ wrote_take W (omega arith) }

@@ -1,4 +1,5 @@
 pub mod Formula
 pub mod Word
 pub mod InnerWords
+pub mod InnerAbove
 pub mod InnerReplacing

@@ -1,16 +1,31 @@
-// Words of the signs A B C D + -: how a word's list is written by copying parts, and how a stretch of a list is replaced by what a word
-// stands for. Nothing here knows a state or a table.
+// Words of the signs A B C D + -: how a word's list is written by copying parts, what stands above A in a word, and how a stretch of a list is
+// replaced by what a word stands for. Nothing here knows a state or a table.
 ghost use Rattle.std.specs.Prelude.{◌≡◌, List, ℕ, ◌+◌, ◌*◌, ◌≤◌, ◌<◌, length};
 ghost use Rattle.tree.specs.Tree.{most_nodes};
 ghost use Rattle.tree.specs.InnerWriting.{Wrote};
 ghost use Rattle.words.specs.InnerWords.{part_of, Within, Bounded, sign_for, spell, replaced};
 ghost use Rattle.words.specs.Word.{most_signs};
-ghost use Rattle.words.specs.InnerReplacing.{PlaceIs, Replaced};
+ghost use Rattle.words.specs.InnerAbove.{PlaceIs, operator_number, frame_kind, FrameAfter, AboveIs};
+ghost use Rattle.words.specs.InnerReplacing.{Replaced};
 
 use tree::{DIFFERENCE, MOST_NODES, UNION};
 
 // "at most 31 signs"
 pub const MOST_SIGNS: usize = 31;
+
+// A frame in a word: its kind (`tree::Above`), and the index after its operator.
+#[derive(Drop)]
+struct WordFrame {
+    kind: u8,
+    end: usize,
+}
+
+// What stands above A in a word: the kinds of A's frame and of its parent's, 0 for one that is not there.
+#[derive(Drop)]
+pub struct AboveA {
+    pub own: u8,
+    pub parent: u8,
+}
 
 // What a replacement answers: its result is too long; or how many nodes the new tree has, and where A begins in it.
 #[derive(Drop)]
@@ -131,6 +146,72 @@ fn place_of_a(word: &[u8]) -> usize
     i
 }
 
+// An operator by its sign, 2 for any other sign.
+fn operator_number(sign: u8) -> u8
+    ensures { result ≡ operator_number sign }
+{
+    if sign == b'+' {
+        return 0;
+    }
+    if sign == b'-' {
+        return 1;
+    }
+    2
+}
+
+// The kind of an operator's frame above a part, by how many operands came after the part: it is the right operand if none did, else the left.
+fn frame_kind(operands: usize, operator: u8) -> u8
+    requires { operator < 2 }
+    ensures { (result ≡ frame_kind operands operator) × (result < 4) }
+{
+    if operands == 0 {
+        2 + operator
+    } else {
+        operator
+    }
+}
+
+// The first frame above the part of a word that ends before `from`: that of the first operator that finds at most one operand after the part.
+fn frame_after(word: &[u8], from: usize) -> WordFrame
+    ensures { FrameAfter word.now from result }
+{
+    let mut operands: usize = 0;
+    let mut i = from;
+    while i < word.len() {
+        if part_of(word[i]) < 4 {
+            operands += 1;
+            i += 1;
+        } else {
+            let operator = operator_number(word[i]);
+            if 2 <= operator {
+                return WordFrame { kind: 0, end: i };
+            }
+            if operands < 2 {
+                let end = i + 1;
+                return WordFrame {
+                    kind: frame_kind(operands, operator),
+                    end,
+                };
+            }
+            operands -= 1;
+            i += 1;
+        }
+    }
+    WordFrame { kind: 0, end: i }
+}
+
+// What stands above A in a word in which A stands once, whichever word it is.
+pub fn above_a(word: &[u8]) -> AboveA
+    ensures { AboveIs word.now result }
+{
+    let own = frame_after(word, place_of_a(word) + 1);
+    let parent = frame_after(word, own.end);
+    AboveA {
+        own: own.kind,
+        parent: parent.kind,
+    }
+}
+
 // Writes the list with the entries from `whole` up to, not including, `end` replaced by what the word stands for.
 fn write_replaced(
     list: &[u16],
@@ -165,7 +246,7 @@ pub fn replace(
     requires whole_le_end { (whole ≤ end) × (end ≤ length list.now) }
     requires list_len_bound { (length list.now ≤ most_nodes) × (most_nodes ≤ length out.old) }
     requires word_len_bound { length word.now ≤ most_signs }
-    ensures { Replaced list.now from to word.now whole end result out.old out.new }
+    ensures { Replaced list.now from to word.now whole end result out.new }
 {
     let nodes = whole + word_width(from, to, word) + (list.len() - end);
     if MOST_NODES < nodes {

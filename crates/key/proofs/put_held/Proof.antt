@@ -8,7 +8,7 @@ use lib.Seq.{length-take-le}
 use Rattle.tree.specs.Tree.{Tree}
 use Rattle.text.specs.Line.{line}
 use Rattle.printing.specs.Key.{HELD}
-use Rattle.lift.specs.InnerLifts.{IsList}
+use Rattle.lift_lines.specs.Inner.{IsList}
 use Rattle.key.specs.Inner.{held_bytes, Markable}
 use Rattle.printing.proofs.PrintingLaws.{never_most}
 use Rattle.common.proofs.ListLaws.{zeros_length}

@@ -28,10 +28,10 @@ returns : tie.Need-returns
 returns c =
     let start = c.before.before.before.before.before.before.before.before.before.before.before.before in
     let H = table_held start.args.table (search rules) (search rules) (sym c.before.before.before.before.before.before.before.before.before.is-loaded.ensures ∙ c.before.before.before.before.before.before.before.before.if1.true) in
-    lifts_same (by_table H _ _ _) (c.before.before.lift-by.ensures _ H.holds)
+    lifts_same (by_table H _ _ _ _) (c.before.before.lift-by.ensures _ H.holds)
 
 returns-2 : tie.Need-returns-2
-returns-2 c = refuses (no_table c.before.before.before.before.args.table _ _ _ (sym c.before.is-loaded.ensures ∙ c.if1.false))
+returns-2 c = refuses (no_table c.before.before.before.before.args.table _ _ _ _ (sym c.before.is-loaded.ensures ∙ c.if1.false))
 
 pub lift-with-spec : {M : Type 1} → statement M
 lift-with-spec =

@@ -43,7 +43,7 @@ faulty-requires c κs = search rules
 returns : tie.Need-returns
 returns c =
     let args = c.before.before.before.before.before.args in
-    λ after es rules st a _ r h. stepped_faulty h (Mark args.g) _ _ _ _ _ _ c.faulty.ensures (fault_mark h a _ ∙ order_first _ _ _ c.before.before.order-fault.ensures c.before.if1.true) c.before.if1.true
+    λ after es rules st a r h. stepped_faulty h (Mark args.g) _ _ _ _ _ _ c.faulty.ensures (fault_mark h a _ ∙ order_first _ _ _ c.before.before.order-fault.ensures c.before.if1.true) c.before.if1.true
 
 slice-aggregate-is-in : tie.Need-slice-aggregate-is-in
 slice-aggregate-is-in c =
@@ -79,7 +79,7 @@ returns-2 c =
     let if1 = c.before.before.before.before.before.before.before.if1 in
     let is-in = c.before.before.before.before.before.is-in in
     let if2 = c.before.before.before.before.if2 in
-    λ after es rules st a _ r h. let i = sym is-in.ensures ∙ if2.true in let j = sym c.before.before.is-in2.ensures ∙ c.before.if3.true in
+    λ after es rules st a r h. let i = sym is-in.ensures ∙ if2.true in let j = sym c.before.before.is-in2.ensures ∙ c.before.if3.true in
     stepped_faulty h (Mark args.g) _ _ _ _ _ _ c.faulty2.ensures (fault_mark h a _ ∙ (order_second _ _ _ order-fault.ensures if1.false ∙ rw (i, j))) (λ z. omega arith)
 
 add-q : tie.Need-overflow-add-q
@@ -104,7 +104,7 @@ same-length-2 c = search rules
 returns-3 : tie.Need-returns-3
 returns-3 c =
     let args = c.before.before.before.before.before.before.before.before.before.before.before.args in
-    λ after es rules st a _ r h. stepped_mark h args.g after (fault_mark h a _ ∙ no_fault c rules st es h)
+    λ after es rules st a r h. stepped_mark h args.g after (fault_mark h a _ ∙ no_fault c rules st es h)
 
 faulty-requires-3 : tie.Need-faulty-requires-3
 faulty-requires-3 c κs = search rules
@@ -114,7 +114,7 @@ returns-4 c =
     let args = c.before.before.before.before.before.before.before.before.args in
     let order-fault = c.before.before.before.before.before.order-fault in
     let if1 = c.before.before.before.before.if1 in
-    λ after es rules st a _ r h. let i = sym c.before.before.is-in.ensures ∙ c.before.if2.false in
+    λ after es rules st a r h. let i = sym c.before.before.is-in.ensures ∙ c.before.if2.false in
     stepped_faulty h (Mark args.g) _ _ _ _ _ _ c.faulty3.ensures (fault_mark h a _ ∙ (order_second _ _ _ order-fault.ensures if1.false ∙ rw i)) (λ z. omega arith)
 
 pub mark-step-spec : {M : Type 1} → statement M

@@ -1,7 +1,6 @@
 -- `one_number`: no range reaches 65,535, so that the capped number passes the tests that the number passes.
 use mathlib.Core.Path.{sym, ◌∙◌}
-use borrow.Author.Tests.{lt-leb, le-leb}
-use Rattle.sheet.proofs.FormLaws.{one_group, one_mark, one_lift, one_other}
+use Rattle.sheet.proofs.FormLaws.{one_group, one_mark, one_other}
 use borrow.Author.Rules.{rules}
 use Rattle.sheet.proofs.one_number.Statement.{statement}
 use Rattle.sheet.proofs.one_number.Tie as tie
@@ -19,19 +18,17 @@ is-group-requires-2 : tie.Need-is-group-requires-2
 is-group-requires-2 c κs = search rules
 
 returns-3 : tie.Need-returns-3
-returns-3 c = λ o e. let g = sym c.before.is-group2.ensures ∙ c.if4.true in rw g at (one_mark _ _ o e c.before.before.before.if1.false c.before.before.if3.true)
+returns-3 c =
+    let if1 = c.before.before.before.if1 in
+    λ o e. let g = sym c.before.is-group2.ensures ∙ c.if4.true in rw g at (one_mark _ _ o e if1.false c.before.before.if3.true)
 
 returns-4 : tie.Need-returns-4
-returns-4 c = λ o e. let g = sym c.before.is-group2.ensures ∙ c.if4.false in rw g at (one_mark _ _ o e c.before.before.before.if1.false c.before.before.if3.true)
+returns-4 c =
+    let if1 = c.before.before.before.if1 in
+    λ o e. let g = sym c.before.is-group2.ensures ∙ c.if4.false in rw g at (one_mark _ _ o e if1.false c.before.before.if3.true)
 
 returns-5 : tie.Need-returns-5
-returns-5 c = λ o e. rw (lt-leb _ _ c.if6.true) at (one_lift _ _ o e c.before.before.before.if1.false c.before.before.if3.false c.before.if5.true)
-
-returns-6 : tie.Need-returns-6
-returns-6 c = λ o e. rw (le-leb _ _ c.if6.false) at (one_lift _ _ o e c.before.before.before.if1.false c.before.before.if3.false c.before.if5.true)
-
-returns-7 : tie.Need-returns-7
-returns-7 c = λ o e. one_other _ o c.before.before.if1.false c.before.if3.false c.if5.false
+returns-5 c = λ o e. one_other _ o c.before.if1.false c.if3.false
 
 pub one-number-spec : {M : Type 1} → statement M
 one-number-spec =
@@ -43,6 +40,4 @@ one-number-spec =
     is-group-requires-2
     returns-3
     returns-4
-    returns-5
-    returns-6
-    returns-7)
+    returns-5)

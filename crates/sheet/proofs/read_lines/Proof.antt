@@ -22,7 +22,7 @@ decreases-loop sheet tasks tree₀ marks₀ p₀ groups₀ at₀ tree marks p gr
 -- after a line's step: the line at the byte, by the rules with as many nodes as there is room for, and what the step did
 line_is : (c : tie.After-step invariant-loop decreases-loop) → c.before.before.before.before.line_at_lem.result
     ≡ line_at (with_tasks c.before.before.before.before.before.before.before.before.before.before.before.args.tasks (with_nodes (length c.before.before.before.before.before.before.before.before.before.before.before.args.tree.now) sheet_rules)) c.before.before.before.before.before.before.before.before.before.before.before.args.sheet.now c.before.before.before.before.before.before.loop.at
-line_is c = c.before.before.before.before.line_at_lem.ensures ∙ line_at_alike sheet_rules _ refl refl refl _ _
+line_is c = c.before.before.before.before.line_at_lem.ensures ∙ line_at_alike sheet_rules _ refl refl _ _
 
 one-read : (c : tie.After-step invariant-loop decreases-loop) → OneLine (with_tasks c.before.before.before.before.before.before.before.before.before.before.before.args.tasks (with_nodes (length c.before.before.before.before.before.before.before.before.before.before.before.args.tree.now) sheet_rules)) c.before.before.before.before.before.before.before.before.before.before.before.args.sheet.now c.before.before.before.before.before.before.loop.at c.before.before.before.before.line_at_lem.result
 one-read c =
@@ -39,7 +39,7 @@ stepped : (c : tie.After-step invariant-loop decreases-loop)
 stepped c =
     let loop = c.before.before.before.before.before.before.loop in
     let R = loop.invariant.3 in
-    rw (line_is c) at (c.step.ensures _ R.st refl refl (rw (line_is c) (line_at_range _ (omega arith) _ loop.at)) R.held)
+    rw (line_is c) at (c.step.ensures _ R.st refl (rw (line_is c) (line_at_range _ (omega arith) _ loop.at)) R.held)
 
 marks-were : (c : tie.After-step invariant-loop decreases-loop) → length c.before.before.before.before.before.before.loop.marks ≡ length c.before.before.before.before.before.before.before.before.before.before.before.args.marks.now
 marks-were c =

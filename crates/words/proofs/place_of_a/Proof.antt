@@ -1,17 +1,19 @@
 -- `place_of_a` meets its contract: after i turns none of the first i signs is A.
-use mathlib.Core.Path.{◌≡◌}
+use mathlib.Core.Path.{◌≡◌, sym, ◌∙◌}
 use mathlib.Core.List.{◌++◌}
 use Prim.Native.Nat.{◌-◌, ◌≤◌}
 use native.Mathlib.Omega.{arith}
 use borrow.Author.Rules.{rules}
 use lib.ListN.{length, take, drop}
 use Rattle.words.specs.InnerWords.{leading}
+use Rattle.words.specs.InnerAbove.{trailing}
 use Rattle.words.proofs.WordLaws.{leading_more, leading_at, leading_all}
+use Rattle.words.proofs.AboveLaws.{trailing_more, trailing_at, trailing_end}
 use Rattle.words.proofs.place_of_a.Statement.{statement}
 use Rattle.words.proofs.place_of_a.Tie as tie
 
 abbrev invariant-loop : tie.invariant-loop
-invariant-loop word i₀ i = (i ≤ length word) × (leading word ≡ take i word ++ leading (drop i word))
+invariant-loop word i₀ i = (i ≤ length word) × (leading word ≡ take i word ++ leading (drop i word)) × (trailing (drop i word) ≡ trailing word)
 
 abbrev decreases-loop : tie.decreases-loop
 decreases-loop word i₀ i = length word - i
@@ -30,6 +32,7 @@ returns c =
     record {
       within = l.invariant.0;
       signs_before = leading_at args.word.now l.i h l.invariant.1 c.if1.true;
+      signs_after = trailing_at args.word.now l.i h c.if1.true ∙ l.invariant.2;
     }
 
 add-i : tie.Need-overflow-add-i invariant-loop decreases-loop
@@ -43,7 +46,7 @@ loop-again c =
     let args = c.before.before.before.before.args in
     let l = c.before.before.before.loop in
     let h = c.before.before.loop-test.true in
-    (omega (arith, h), leading_more args.word.now l.i h l.invariant.1 c.if1.false)
+    (omega (arith, h), leading_more args.word.now l.i h l.invariant.1 c.if1.false, sym (trailing_more args.word.now l.i h c.if1.false) ∙ l.invariant.2)
 
 returns-2 : tie.Need-returns-2 invariant-loop decreases-loop
 returns-2 c =
@@ -52,6 +55,7 @@ returns-2 c =
     record {
       within = l.invariant.0;
       signs_before = leading_all args.word.now l.i c.loop-test.false l.invariant.1;
+      signs_after = trailing_end args.word.now l.i c.loop-test.false ∙ l.invariant.2;
     }
 
 pub place-of-a-spec : {M : Type 1} → statement M

@@ -1,5 +1,5 @@
 -- `replace` meets its contract: the new list's length is the sum of its three parts', and A begins after the signs before it.
-use mathlib.Core.Path.{refl, sym, ap, ◌∙◌}
+use mathlib.Core.Path.{sym, ap, ◌∙◌}
 use mathlib.Core.List.{List}
 use Prim.Native.Nat.{ℕ, ◌+◌}
 use native.Mathlib.Omega.{arith}
@@ -27,7 +27,7 @@ returns : tie.Need-returns
 returns c = let g = c.before.before.before.before.before in
     let v = g.args in
     let long = replaced_length v.list.now v.from v.to v.word.now v.whole v.end g.requires.1.0.0 g.requires.1.0.1 in
-    record { by_word = (omega (arith, c.if1.true, c.before.word_width.ensures.0 v.list.now g.requires.0, long), refl) }
+    record { by_word = omega (arith, c.if1.true, c.before.word_width.ensures.0 v.list.now g.requires.0, long) }
 
 place-of-a-requires : tie.Need-place-of-a-requires
 place-of-a-requires c κs = search rules
