@@ -1,4 +1,6 @@
 // Small trees for tables whose rows are 0, 1 or free: one variable at a time, by the split that `splits` chooses.
+#![tactic(auto)]
+
 ghost use Rattle.std.specs.Prelude.{◌≡◌, [], ◌∷◌, suc, ◌+◌, ◌-◌, ◌<◌, ◌≤◌, eqb, length, take};
 ghost use Rattle.tree.specs.Tree.{sign, operator_of, most_groups};
 ghost use Rattle.tree.specs.InnerWriting.{Wrote};

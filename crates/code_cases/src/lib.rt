@@ -1,4 +1,6 @@
 // What the edge cases of both coders share: the line of a case, the trees of 8,191 nodes, and printing.
+#![tactic(auto)]
+
 ghost use Rattle.std.specs.Prelude.{◌<◌};
 
 use coder::Coded;

@@ -1,4 +1,6 @@
 // The coder: from a tree to instructions that thirteen registers can run.
+#![tactic(auto)]
+
 ghost use Rattle.std.specs.Prelude.{◌≡◌, true, [], ◌<◌, length};
 ghost use Rattle.std.proofs.Math.Option.{some};
 ghost use Rattle.tree.specs.Tree.{Tree};
@@ -20,21 +22,21 @@ pub const SHORT_BUFFER: u16 = 20;
 pub const NOT_A_TREE: u16 = 12;
 
 // The answer of `encode`: the number of instructions, or the number of the first fault.
-#[derive(Drop)]
+#[derive(Clone, Copy)]
 pub enum Coded {
     Done(usize),
     Refused(u16),
 }
 
 // A node's run in the code of its tree: its first instruction, counted from 1, and how many there are.
-#[derive(Drop)]
+#[derive(Clone, Copy)]
 pub struct Run {
     pub first: usize,
     pub count: usize,
 }
 
 // A child's entry, and how many instructions stand before its own in the code of its parent.
-#[derive(Drop)]
+#[derive(Clone, Copy)]
 struct Below {
     end: usize,
     before: usize,

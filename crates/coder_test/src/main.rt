@@ -1,5 +1,7 @@
 // Codes 01's example, trees that need 1 and 13 registers, chains of 8,191 nodes to both sides, and lists that are refused.
 // Before each case every number of the buffer is 61000.
+#![tactic(auto)]
+
 use code_cases::BEFORE;
 
 fn show(label: &[u8], tree: &[u16], out: &mut [u16]) {

@@ -1,5 +1,7 @@
 // Which columns of a truth table to build a gathered tree by, if any, and the tree. In a column the marked groups vary and the
 // others are fixed; a table's rows are its columns one after the other.
+#![tactic(auto)]
+
 ghost use Rattle.std.specs.Prelude.{◌≡◌, [], ◌∷◌, ◌++◌, ◌+◌, ◌-◌, ◌*◌, ◌%◌, ◌^◌, ◌<◌, ◌≤◌, ltb, length, take, cond};
 ghost use Rattle.table.specs.InnerTable.{row_count, rows_of};
 ghost use Rattle.tree.specs.Tree.{most_groups};
@@ -16,7 +18,7 @@ use tree::MOST_GROUPS;
 
 // What the columns allow: no tree; the tree for constant columns; the tree by the columns' rows `low` and `high` and the
 // column that starts at row `start`.
-#[derive(Drop)]
+#[derive(Clone, Copy)]
 pub enum Choice {
     Never,
     Constant,

@@ -1,5 +1,7 @@
 // The calls for programs in other languages, for tests and measurements: a slice passes as a pointer and a length, and an
 // answer as numbers: 01's number first (0 for done), then the values of the answer (0 where refused).
+#![tactic(auto)]
+
 ghost use Rattle.std.specs.Prelude.{◌≡◌, [], ◌∷◌, ◌%◌, length, set};
 ghost use Rattle.std.proofs.lemmas.List.Edits.{sets};
 ghost use Rattle.moves.specs.Moves.{ours};

@@ -1,4 +1,6 @@
 // Tables whose rows are 0, 1 or free, and their parts: the tables with a variable less, by a form.
+#![tactic(auto)]
+
 ghost use Rattle.std.specs.Prelude.{◌≡◌, List, ◌+◌, ◌%◌, ◌^◌, ◌<◌, ◌≤◌, length};
 ghost use Rattle.tree.specs.Tree.{most_groups};
 ghost use Rattle.forms.specs.InnerForms.{inverse, may_use, first_row, second_row};
@@ -120,7 +122,7 @@ fn second_row(form: Form, l: Row, h: Row) -> Row
 }
 
 // A row without the variable, and the one with it.
-#[derive(Drop)]
+#[derive(Clone, Copy)]
 struct Pair {
     low: Row,
     high: Row,

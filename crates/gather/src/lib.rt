@@ -1,4 +1,6 @@
 // Gathering: a tree with the marked groups under one node, or the proof that no tree has them so.
+#![tactic(auto)]
+
 ghost use Rattle.std.specs.Prelude.{◌≡◌, true, ◌||◌, ℕ, ◌≤◌, eqb, length, take};
 ghost use Rattle.std.proofs.Math.Option.{some};
 ghost use Rattle.common.specs.Exactly.{Exactly};
@@ -30,7 +32,7 @@ pub const BAD_MARKS: u16 = 18;
 pub const CANNOT_BE_GATHERED: u16 = 19;
 
 // The answer: the tree's nodes and the holder's position, or 01's number.
-#[derive(Drop)]
+#[derive(Clone, Copy)]
 pub enum Gathering {
     Done { nodes: usize, holder: usize },
     Refused(u16),

@@ -2,6 +2,8 @@
 // and what is refused with each number, the first fault first. Before each case every number of the buffer is 61000, no group's and no operator's. A line has the
 // case; the number answered, the new tree's length and its holder's position; whether the buffer behind the tree is as before; and the
 // tree's first entries.
+#![tactic(auto)]
+
 use gather::Gathering;
 use tree::{DIFFERENCE, INTERSECTION, UNION};
 

@@ -1,11 +1,13 @@
 // Whether a tree is gathered already, and its holder's position, by one pass.
+#![tactic(auto)]
+
 ghost use Rattle.std.specs.Prelude.{◌≡◌};
 ghost use Rattle.tree.specs.Tree.{Tree, postfix, is_in};
 ghost use Rattle.table.specs.InnerTable.{Listed};
 ghost use Rattle.holding.specs.InnerHolding.{merged, status_of, status};
 
 // Of a part of the tree: no leaf is marked; all are, its root at the position; gathered, the holder at the position; none of these.
-#[derive(Drop)]
+#[derive(Clone, Copy)]
 pub enum Status {
     Free,
     Mixed,

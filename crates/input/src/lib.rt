@@ -1,4 +1,6 @@
 // Reading files by name, for the programs.
+#![tactic(auto)]
+
 ghost use Rattle.io.specs.Counts.{IsPrefixLen};
 
 // Reads the file that argument i names, as far as the buffer goes, and returns how many bytes it has. A file that can't be opened counts as

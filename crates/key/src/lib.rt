@@ -1,4 +1,6 @@
 // The key of a sheet: its lifts in order, its marked groups gathered, its code, printed.
+#![tactic(auto)]
+
 ghost use Rattle.std.specs.Prelude.{◌+◌, ◌≤◌, length, take};
 ghost use Rattle.tree.specs.Tree.{most_nodes};
 ghost use Rattle.tree.specs.InnerWriting.{Wrote};
@@ -131,7 +133,7 @@ fn put_before_code(
 }
 
 // The key was written, of so many bytes; or the buffer is too short for some key.
-#[derive(Drop)]
+#[derive(Clone, Copy)]
 pub enum KeyAnswer {
     Written(usize),
     Short,

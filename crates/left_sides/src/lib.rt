@@ -1,5 +1,7 @@
 // Whether a word may stand for the left side of a state and an input: what its signs come to under all sixteen fillings of A, B, C and D,
 // beside what the left side comes to.
+#![tactic(auto)]
+
 ghost use Rattle.std.specs.Prelude.{◌≡◌, ℕ, ◌+◌, ◌≤◌, ◌<◌, eqb, length};
 ghost use mathlib.Core.List.{map, zip_with};
 ghost use Rattle.tree.specs.Tree.{Basic, operator_of, apply};
@@ -61,7 +63,7 @@ const LEFT_SIDES: [[u8; 7]; 36] = [
 
 // What is known of a formula: whether it names A, whether it names A once, A's level, 3 for a higher one too, and what it selects under
 // each filling.
-#[derive(Drop)]
+#[derive(Clone, Copy)]
 struct Known {
     names: bool,
     once: bool,

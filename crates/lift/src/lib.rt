@@ -1,4 +1,6 @@
 // Lifting a node of a tree by Tables 9 and 10, step by step, all or none.
+#![tactic(auto)]
+
 ghost use Rattle.std.specs.Prelude.{◌≡◌, List, ℕ, ◌+◌, ◌*◌, ◌≤◌, ◌<◌, length, take};
 ghost use Rattle.tree.specs.Tree.{Tree, most_nodes};
 ghost use Rattle.tree.specs.Context.{Frame};
@@ -33,7 +35,7 @@ pub const THROUGH_INTERSECTION: u16 = 27;
 pub const NOT_A_TABLE: u16 = 29;
 
 // A lift's answer: how many nodes the new tree has, A's position and the looks; or the refusal's number.
-#[derive(Drop)]
+#[derive(Clone, Copy)]
 pub enum Lifted {
     Done {
         nodes: usize,

@@ -1,4 +1,6 @@
 // The lift lines of a sheet: each lift carried out in the tree that the one before it left, and its line written.
+#![tactic(auto)]
+
 ghost use Rattle.std.specs.Prelude.{◌≡◌, List, ℕ, ◌*◌, ◌≤◌, length};
 ghost use Rattle.moves.specs.InnerEntries.{SomeTable};
 ghost use Rattle.sheet.specs.Reading.{LiftLine};
@@ -6,7 +8,7 @@ ghost use Rattle.sheet.specs.declared.Line.TheVariants.{Lift};
 ghost use Rattle.lift_lines.specs.Inner.{lift_bytes, InArray, LiftRoom, LiftsOne, Asked, LiftsAll};
 
 // How many entries the tree has, and the index after what is written of the key.
-#[derive(Drop)]
+#[derive(Clone, Copy)]
 pub struct Progress {
     pub nodes: usize,
     pub next: usize,
@@ -48,7 +50,7 @@ fn lift_one(
 }
 
 // A lift line's two numbers.
-#[derive(Drop)]
+#[derive(Clone, Copy)]
 struct LiftNumbers {
     position: usize,
     levels: usize,

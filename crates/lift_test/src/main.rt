@@ -2,6 +2,8 @@
 // Before each case every number of the buffer is 61000, no group's and no operator's. A line has the case; the number, the position and the looks that the key would
 // print; the new tree's length; how many numbers of the buffer still are 61000; a checksum of the whole buffer; and the new tree's first
 // entries.
+#![tactic(auto)]
+
 ghost use Rattle.std.specs.Prelude.{◌≤◌, length};
 
 use lift::Lifted;

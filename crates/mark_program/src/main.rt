@@ -1,5 +1,6 @@
 // Marks the drawing in its second argument's file against the question sheet in its first argument's, and prints the mark or the
 // refusal. All the work is `marking`'s.
+#![tactic(auto)]
 
 fn main() {
     let mut question = [0u8; sheet::ENOUGH_BYTES];

@@ -1,4 +1,6 @@
 // Marks a candidate's drawing against a question sheet.
+#![tactic(auto)]
+
 ghost use Rattle.std.specs.Prelude.{◌≡◌, true, ◌≤◌, length};
 ghost use Rattle.common.specs.Exactly.{Exactly};
 ghost use Rattle.text.specs.Line.{line};
@@ -14,7 +16,7 @@ use table::ROWS;
 pub const FOREIGN_GROUP: u8 = 26;
 
 // The answer: the mark, or the number and the line of a refusal, in the question's file or in the candidate's.
-#[derive(Drop)]
+#[derive(Clone, Copy)]
 pub enum Marking {
     Right,
     OtherLamps,

@@ -1,4 +1,6 @@
 // Loading a school's move table: any bytes to its 36 words, or the first fault.
+#![tactic(auto)]
+
 ghost use Rattle.std.specs.Prelude.{◌≡◌, ◌∷◌, [], ◌<◌, ◌≤◌, length, drop};
 ghost use Rattle.text.specs.Line.{line_feed};
 ghost use Rattle.words.specs.Word.{sign_of, allowed, most_signs};
@@ -33,7 +35,7 @@ const BAD_LINE: u16 = 28;
 const BAD_WORD: u16 = 29;
 
 // A loaded table: the words' signs, in rows of 31 of which what a word leaves is 0, and the words' lengths.
-#[derive(Drop)]
+#[derive(Clone, Copy)]
 pub struct LoadedTable {
     pub signs: [u8; SIGNS],
     pub lengths: [u8; 36],

@@ -1,4 +1,6 @@
 // The move entries of Table 9, the state of a part, and the next state that an entry leads to. Nothing here knows a list of lifts.
+#![tactic(auto)]
+
 ghost use Rattle.std.specs.Prelude.{◌≡◌, ◌≤◌};
 ghost use Rattle.tree.specs.Tree.{Operator};
 ghost use Rattle.tree.specs.Context.{Side};

@@ -3,6 +3,8 @@
 //
 // One pass over the tree's list notes where each node's part begins and what it needs. With these notes a node's children
 // are found from its entry: the right one is the entry before, the left one the entry before the right part's start.
+#![tactic(auto)]
+
 ghost use Rattle.std.specs.Prelude.{◌≡◌, true, cond, [], ◌∷◌, ◌+◌, ◌<◌, ◌≤◌, length};
 ghost use Rattle.tree.specs.Tree.{Operator, sign, most_nodes};
 ghost use Rattle.tree.specs.Parse.{tree_of, is_some};
@@ -13,7 +15,7 @@ ghost use Rattle.code.specs.Code.{operation};
 ghost use Rattle.notes.specs.InnerNotes.{Noted, HasChildren, ChildrenInOrder};
 
 // A node's children in the order of their code, by their entries, and whether the left one comes first.
-#[derive(Drop)]
+#[derive(Clone, Copy)]
 pub struct Children {
     pub first: usize,
     pub second: usize,

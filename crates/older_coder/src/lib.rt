@@ -1,6 +1,8 @@
 // The coder for the older player: the same trees in the same order of nodes, other instructions.
 //
 // Where no operand waits is a number: bit r is 1 if none waits in register r.
+#![tactic(auto)]
+
 ghost use Rattle.std.specs.Prelude.{◌≡◌, false, [], ◌∷◌, ◌+◌, ◌≤◌, ◌<◌, length, get_or};
 ghost use Rattle.tree.specs.Tree.{Tree, most_nodes};
 ghost use Rattle.tree.specs.InnerWriting.{Wrote};

@@ -1,6 +1,8 @@
 // Codes for the older player: 01's example, a tree with its answer in register 2, trees that need 1 and 13 registers, chains of 8,191
 // nodes to both sides, and lists that are refused. Before each case every number of the buffer is 61000, so that what is written past
 // the last shows.
+#![tactic(auto)]
+
 use code_cases::BEFORE;
 
 fn show(label: &[u8], tree: &[u16], out: &mut [u16]) {

@@ -1,5 +1,7 @@
 // The older player: from its instructions and a patch to the lamps that are lit. The instructions before SHOW are carried out as 01's player
 // does it, with the first register as target and left operand.
+#![tactic(auto)]
+
 ghost use Rattle.std.specs.Prelude.{◌≡◌};
 ghost use Rattle.older_player.specs.Playing.{wrong_instruction, misplaced, wrong_code, play_fault, Plays};
 

@@ -1,5 +1,7 @@
 // Plays the cases of request 8's older player: which register an operation changes, where SHOW stands, the unused numbers, the ranges,
 // and the order of the faults. Before each case every byte holds 165.
+#![tactic(auto)]
+
 use older_player::SHOW;
 use play_cases::BEFORE;
 use player::{ADD, BOTH, CUT, LOAD};

@@ -1,4 +1,5 @@
 // Printing, for the programs.
+#![tactic(auto)]
 
 // Prints the first `count` bytes.
 pub fn print(bytes: &[u8], count: usize) {

@@ -1,4 +1,6 @@
 // What the edge cases of both players share: the line of a case.
+#![tactic(auto)]
+
 use player::Played;
 
 // What every byte is before a case.

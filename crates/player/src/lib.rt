@@ -2,6 +2,8 @@
 //
 // A set of 512 lamps is 8 words of 64 lamps. Each group that the patch names has a place among at most 4,097 sets, and an index says
 // which: it alone, two bytes for each number, is as large as the range of groups. Each instruction is decoded once.
+#![tactic(auto)]
+
 ghost use Rattle.std.specs.Prelude.{◌≡◌, false, List, ◌++◌, ℕ, ◌+◌, ◌≤◌, ◌<◌, eqb, length, get_or, drop};
 ghost use Rattle.player.specs.Limits.{register_count, last_group, last_lamp, most_pairs, byte_count, outside};
 ghost use Rattle.player.specs.Instructions.{Lamps, Rig, Registers, add, combined, empty, step, operation_with};
@@ -43,14 +45,14 @@ const WORDS: usize = LAMPS / WIDTH;
 const PLACES: usize = PAIRS + 1;
 
 // The answer of `play`: done, or refused with the number of the first fault.
-#[derive(Drop)]
+#[derive(Clone, Copy)]
 pub enum Played {
     Done,
     Refused(u16),
 }
 
 // An instruction's four numbers; s is LOAD's group.
-#[derive(Drop)]
+#[derive(Clone, Copy)]
 pub struct Numbers {
     pub kind: u16,
     pub target: usize,

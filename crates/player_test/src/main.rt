@@ -1,4 +1,6 @@
 // Plays the cases that 01 names in "The player", and request 6's BOTH. Before each, every byte holds 165.
+#![tactic(auto)]
+
 use play_cases::BEFORE;
 use player::{ADD, BOTH, CUT, LOAD};
 

@@ -1,5 +1,6 @@
 // What both key programs do: reads a sheet from standard input and prints its key for a device, by the move table in its argument's file
 // or, without an argument, by ours. All the work is `key`'s.
+#![tactic(auto)]
 
 // The key of a sheet by the table that the program was asked for.
 fn answer(sheet: &[u8], out: &mut [u8], device: printing::Device) -> key::KeyAnswer {

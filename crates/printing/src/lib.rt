@@ -1,4 +1,6 @@
 // What a key says and the bytes that say it, in specs/Key.antt; and the lines of a code's instructions, written.
+#![tactic(auto)]
+
 ghost use Rattle.std.specs.Prelude.{◌+◌, ◌≤◌, length};
 ghost use Rattle.tree.specs.InnerWriting.{Wrote};
 ghost use Rattle.text.specs.Line.{line, lines};
@@ -8,7 +10,7 @@ ghost use Rattle.printing.specs.Key.{word_of, instruction_row, older_row};
 ghost use Rattle.printing.specs.Inner.{row_text, row_of, code_rows};
 
 // 01's player, and the older one of request 8.
-#[derive(Drop)]
+#[derive(Clone, Copy)]
 pub enum Device {
     Newer,
     Older,

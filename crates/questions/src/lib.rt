@@ -1,4 +1,6 @@
 // All small questions: the tree with a given index, and a tree's index, by counting the lists that come before it.
+#![tactic(auto)]
+
 ghost use Rattle.std.specs.Prelude.{◌≡◌, true, List, ℕ, ◌*◌, ◌+◌, ◌≤◌, ◌<◌};
 ghost use Rattle.std.proofs.Math.Option.{some};
 ghost use Rattle.std.proofs.Math.ListN.{get_elem?};
@@ -19,7 +21,7 @@ pub const MOST_ENTRIES: usize = 7;
 const ENTRIES: [u16; 5] = [1, 2, 3, UNION, DIFFERENCE];
 
 // A call's answer: how many entries the tree has, or the tree's index; or the refusal's number.
-#[derive(Drop)]
+#[derive(Clone, Copy)]
 pub enum Reply {
     Done(usize),
     Refused(u16),
@@ -33,14 +35,14 @@ pub struct Question {
 }
 
 // A part of a list of lists, by the length or the first entry that its lists share, and an index in it.
-#[derive(Drop)]
+#[derive(Clone, Copy)]
 struct Place {
     part: u16,
     index: usize,
 }
 
 // How many lists go on behind each group, and how many behind each operator.
-#[derive(Drop)]
+#[derive(Clone, Copy)]
 struct Behind {
     group: u16,
     operator: u16,

@@ -1,5 +1,6 @@
 // Prints all small questions, a line for each; with an index as argument that one only, or `NO` and the refusal's number. An argument that is
 // no number, or is larger than 65,534, counts as past the last. All the work is `question_lines`'.
+#![tactic(auto)]
 
 // Prints the line for an index.
 fn print_one(index: usize) {

@@ -1,4 +1,6 @@
 // Reads a sheet.
+#![tactic(auto)]
+
 ghost use Rattle.std.specs.Prelude.{◌≡◌, true, List, [], ◌∷◌, ℕ, ◌+◌, ◌≤◌, ◌<◌, length, replicate};
 ghost use Rattle.std.proofs.Math.Option.{Option};
 ghost use Rattle.text.specs.Inner.{capped};
@@ -50,7 +52,7 @@ pub const MARK_TWICE: u8 = 9;
 pub const NO_END: u8 = 10;
 
 // A line by its form: a group, an operator as a tree's list has it, a lift's position and levels, a mark, the end, or none.
-#[derive(Drop)]
+#[derive(Clone, Copy)]
 pub enum Line {
     Group(u16),
     Operator(u16),
@@ -61,7 +63,7 @@ pub enum Line {
 }
 
 // A line, and the byte after it.
-#[derive(Drop)]
+#[derive(Clone, Copy)]
 pub struct LineAt {
     pub line: Line,
     pub next: usize,
@@ -178,7 +180,7 @@ pub fn line_at(sheet: &[u8], at: usize) -> LineAt
 // How far reading has come. The arrays beside it hold the tree's entries (`nodes`), its different groups (`different`) and
 // the marks (`marked`). `fault` is 0 where there is none; `phase` is the place of the last line, `waiting` the number of
 // trees that wait, `start` the byte after the tree lines.
-#[derive(Drop)]
+#[derive(Clone, Copy)]
 pub struct Progress {
     pub fault: u8,
     pub line: usize,

@@ -1,5 +1,7 @@
 // The cases that are easy to get wrong, each with what reading answers: number and line of the fault, nodes, marks, the byte
 // where the lifts begin, lifts. Then the refused sheets of standard input, each as a key says it.
+#![tactic(auto)]
+
 mod cases;
 mod vectors;
 

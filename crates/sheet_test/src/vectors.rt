@@ -1,7 +1,7 @@
 // Refused sheets of standard input, each behind a line with its length.
 ghost use Rattle.std.specs.Prelude.{◌≤◌, ◌<◌, length};
 
-#[derive(Drop)]
+#[derive(Clone, Copy)]
 pub struct Range {
     pub from: usize,
     pub to: usize,

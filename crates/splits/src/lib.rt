@@ -1,4 +1,6 @@
 // Which variable a table is split by, and by which form.
+#![tactic(auto)]
+
 ghost use Rattle.std.specs.Prelude.{◌≡◌, ℕ, suc, ◌^◌, ◌≤◌};
 ghost use Rattle.free_tables.specs.InnerTables.{table_of};
 ghost use Rattle.forms.specs.InnerForms.{keeps_by};
@@ -14,7 +16,7 @@ const FORMS: usize = 8;
 const NEVER: usize = 100000;
 
 // Whether the holder of the marked groups is a variable, the highest one, and whether its tree is to stand in the tree built.
-#[derive(Drop)]
+#[derive(Clone, Copy)]
 pub enum Holder {
     Absent,
     Dropped,
@@ -22,7 +24,7 @@ pub enum Holder {
 }
 
 // What a split does with the parts: not allowed; both without the holder; the holder in the first, or in the second.
-#[derive(Drop)]
+#[derive(Clone, Copy)]
 pub enum Use {
     No,
     Plain,
@@ -31,7 +33,7 @@ pub enum Use {
 }
 
 // A split: the form, the variable, and what happens to the holder.
-#[derive(Drop)]
+#[derive(Clone, Copy)]
 pub struct Split {
     pub form: Form,
     pub variable: usize,

@@ -1,4 +1,6 @@
 // One step of a lift by Table 9: what the three frames above a node make of it, and the step carried out.
+#![tactic(auto)]
+
 ghost use Rattle.std.specs.Prelude.{◌≡◌, ◌⊎◌, List, ◌≤◌, ◌<◌, length};
 ghost use Rattle.tree.specs.Tree.{Tree, most_nodes};
 ghost use Rattle.tree.specs.Context.{Frame};
@@ -14,7 +16,7 @@ use tree::Above;
 use words::{MOST_SIGNS, Replacement};
 
 // A node of a tree's list: its part's entries, from `from` up to, not including, `to`; and its state, 0 where it has none.
-#[derive(Drop)]
+#[derive(Clone, Copy)]
 pub struct Node {
     pub from: usize,
     pub to: usize,
@@ -22,14 +24,14 @@ pub struct Node {
 }
 
 // A stretch of a list: the entries from `from` up to, not including, `to`.
-#[derive(Drop)]
+#[derive(Clone, Copy)]
 pub struct Stretch {
     pub from: usize,
     pub to: usize,
 }
 
 // The innermost frame of a part: none, or its kind (`tree::Above`), the sibling's stretch and the parent's.
-#[derive(Drop)]
+#[derive(Clone, Copy)]
 pub enum Framed {
     Root,
     Under(u8, Stretch, Stretch),
@@ -37,7 +39,7 @@ pub enum Framed {
 
 // What a step does: nothing, for want of a D or because of an intersection; or it replaces the last stretch by a move entry, T alone or T with D,
 // with this input and these stretches of B, C and D.
-#[derive(Drop)]
+#[derive(Clone, Copy)]
 pub enum Plan {
     Stuck,
     Blocked,
@@ -45,7 +47,7 @@ pub enum Plan {
 }
 
 // A step's answer: there is none (15), or none because of an intersection (27); its result is too long (16); or how many nodes the new tree has, and A in it.
-#[derive(Drop)]
+#[derive(Clone, Copy)]
 pub enum Stepped {
     Stuck,
     Blocked,

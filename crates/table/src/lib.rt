@@ -1,4 +1,6 @@
 // The truth table of a tree over a list of groups.
+#![tactic(auto)]
+
 ghost use Rattle.std.specs.Prelude.{◌≡◌, List, ℕ, ◌≤◌, ◌<◌, length, get_or};
 ghost use Rattle.tree.specs.Tree.{Operator, union, sign, Tree, most_nodes, postfix, apply};
 ghost use Rattle.table.specs.InnerTable.{row_count, value_at, table, Listed, IsPlace, ArePlaces};

@@ -1,4 +1,6 @@
 // Postfix lists of trees: is a list a tree, which groups it has, where a part begins, and what is above it.
+#![tactic(auto)]
+
 ghost use Rattle.std.specs.Prelude.{◌≡◌, List, [], ◌∷◌, reverse, ℕ, ◌+◌, ◌≤◌, ◌<◌, length, take, drop};
 ghost use Rattle.tree.specs.Tree.{Operator, sign, Tree, is_group, is_in, collect, most_groups};
 ghost use Rattle.tree.specs.Context.{Frame};
@@ -198,7 +200,7 @@ pub fn part_start(list: &[u16], to: usize) -> usize
 
 // What is above a part: nothing, or the operator that takes it. `kind` is 0, 1 or 4 for a left operand of a union, a
 // difference or an intersection, 2, 3 or 6 for a right one; then come the entries of the part's sibling and of its parent's part.
-#[derive(Drop)]
+#[derive(Clone, Copy)]
 pub enum Above {
     Root,
     Under {

@@ -1,5 +1,7 @@
 // Words of the signs A B C D + -: how a word's list is written by copying parts, what stands above A in a word, and how a stretch of a list is
 // replaced by what a word stands for. Nothing here knows a state or a table.
+#![tactic(auto)]
+
 ghost use Rattle.std.specs.Prelude.{◌≡◌, List, ℕ, ◌+◌, ◌*◌, ◌≤◌, ◌<◌, length};
 ghost use Rattle.tree.specs.Tree.{most_nodes};
 ghost use Rattle.tree.specs.InnerWriting.{Wrote};
@@ -14,21 +16,21 @@ use tree::{DIFFERENCE, MOST_NODES, UNION};
 pub const MOST_SIGNS: usize = 31;
 
 // A frame in a word: its kind (`tree::Above`), and the index after its operator.
-#[derive(Drop)]
+#[derive(Clone, Copy)]
 struct WordFrame {
     kind: u8,
     end: usize,
 }
 
 // What stands above A in a word: the kinds of A's frame and of its parent's, 0 for one that is not there.
-#[derive(Drop)]
+#[derive(Clone, Copy)]
 pub struct AboveA {
     pub own: u8,
     pub parent: u8,
 }
 
 // What a replacement answers: its result is too long; or how many nodes the new tree has, and where A begins in it.
-#[derive(Drop)]
+#[derive(Clone, Copy)]
 pub enum Replacement {
     TooLong,
     Done { nodes: usize, from: usize },
