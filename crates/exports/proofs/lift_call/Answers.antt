@@ -1,0 +1,9 @@
+use mathlib.Core.Path.{ap, ◌∙◌}
+use Rattle.common.specs.Answer.{Answer}
+use Rattle.exports.specs.Storing.{with_answer}
+use Rattle.exports.proofs.lift_call.Goals as goal
+
+pub returns : goal.returns
+returns c =
+    let lift = c.lift-lifted.ensures in
+    record { leaves = lift.leaves; stores = c.store_lift.ensures ∙ ap (λ (a : Answer). with_answer a c.args.answer.now) lift.says }

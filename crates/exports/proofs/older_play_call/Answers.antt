@@ -1,0 +1,5 @@
+use Rattle.exports.proofs.PlayingLaws.{play_call}
+use Rattle.exports.proofs.older_play_call.Goals as goal
+
+pub returns : goal.returns
+returns c = play_call c.play-played.ensures _ c.number_of.ensures

@@ -1,0 +1,38 @@
+-- `is_row`: the length, the zeros after the word, and the word.
+use mathlib.Core.Path.{refl, sym, ap, ◌∙◌}
+use mathlib.Core.Bool.{true, false}
+use native.Mathlib.Omega.{arith}
+use borrow.Author.Tests.{leb-true}
+use lib.Dec.{leb}
+use lib.Seq.{length-take-le}
+use Rattle.text.proofs.PartsLaws.{rest_all}
+use Rattle.words.proofs.Cases.{second_true}
+use Rattle.move_table.specs.Packing.{all_zero}
+use Rattle.move_table.specs.InnerLoading.{place_at}
+use Rattle.move_table.proofs.LineLaws.{place_number_lem}
+use Rattle.move_table.proofs.PackingLaws.{row_tested}
+use Rattle.move_table.proofs.is_row.Goals as goal
+
+pub slice_bounds-all_zero-count : goal.slice_bounds-all_zero-count
+slice_bounds-all_zero-count c = let n = c.args.n in omega (arith, leb-true n 31 (second_true (leb 1 n) (leb n 31) c.if-n.true))
+
+pub slice_bounds-stands-end : goal.slice_bounds-stands-end
+slice_bounds-stands-end c = sym (length-take-le c.args.n c.args.row.now (sub-all-zero c.before.before.before.before))
+
+pub stands-requires : goal.stands-requires
+stands-requires c = let e = slice-aggregate-stands c in let h = sub-all-zero c.before.before.before.before in omega arith
+
+pub returns-then-all_zero : goal.returns-then-all_zero
+returns-then-all_zero c =
+    let args = c.args in
+    let h = c.requires.1 in
+    c.stands.ensures (place_at args.place).state (place_at args.place).input (sym (place_number_lem args.place h))
+    ∙ sym (row_tested (place_at args.place) args.row.now args.n c.all_zero.result true true c.if-n.true (c.all_zero.ensures ∙ ap all_zero (rest_all args.n args.row.now)) c.if-all_zero.true)
+
+pub returns-else-all_zero : goal.returns-else-all_zero
+returns-else-all_zero c =
+    let args = c.args in
+    sym (row_tested (place_at args.place) args.row.now args.n c.all_zero.result true false c.if-n.true (c.all_zero.ensures ∙ ap all_zero (rest_all args.n args.row.now)) c.if-all_zero.false)
+
+pub returns-else-n : goal.returns-else-n
+returns-else-n c = let args = c.args in sym (row_tested (place_at args.place) args.row.now args.n _ false _ c.if-n.false refl refl)

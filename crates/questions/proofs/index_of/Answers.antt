@@ -1,0 +1,13 @@
+-- `index_of` meets its contract: a list that is no question has no index.
+use mathlib.Core.Path.{sym, ◌∙◌}
+use Rattle.questions.proofs.AnswerLaws.{gives_index, gives_no_index}
+use Rattle.questions.proofs.index_of.Goals as goal
+
+pub index_in-requires : goal.index_in-requires
+index_in-requires c = sym c.is_question.ensures ∙ c.if-is_question.true
+
+pub returns-then-is_question : goal.returns-then-is_question
+returns-then-is_question c = gives_index c.args.list.now c.index_in.result c.index_in.ensures
+
+pub returns : goal.returns
+returns c = gives_no_index c.args.list.now (sym c.is_question.ensures ∙ c.if-is_question.false)

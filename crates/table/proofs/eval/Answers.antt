@@ -1,0 +1,62 @@
+use mathlib.Core.Path.{refl, ◌∙◌}
+use Prim.Native.Nat.{◌≤◌, ◌-◌}
+use native.Mathlib.Omega.{arith}
+use lib.ListN.{get_or, length-set}
+use Rattle.tree.specs.Tree.{most_groups}
+use Rattle.table.proofs.EvalLaws.{evaluating_start, evaluating_leaf, evaluating_both, evaluating_operator, evaluating_end}
+use Rattle.table.proofs.eval.Goals as goal
+use Rattle.table.proofs.eval.Goals.{After-leaf-1}
+
+pub loop-i-init : goal.loop-i-init
+loop-i-init c = (omega arith, omega arith, refl, λ t groups e p. evaluating_start e)
+
+-- a leaf's place is one of a row's bits, or the bit after them
+small : (c : After-leaf-1) → get_or c.args.places.now c.loop-i.i 0 ≤ most_groups
+small c = (c.requires.2.1.each _ c.loop-i-test.true).small
+
+pub overflow_cast-leaf : goal.overflow_cast-leaf
+overflow_cast-leaf c = omega (arith, small c)
+
+pub overflow_shr-leaf : goal.overflow_shr-leaf
+overflow_shr-leaf c = omega (arith, small c)
+
+pub loop-i-preserved-then-next-eq0 : goal.loop-i-preserved-then-next-eq0
+loop-i-preserved-then-next-eq0 c =
+    let pre = c.requires in
+    let loop = c.loop-i in
+    let less = c.loop-i-test.true in (
+      omega arith,
+      omega arith,
+      simp length-set loop.invariant.2,
+      λ t groups e p. evaluating_leaf (loop.invariant.3 t groups e p) _ less c.if-x-lt-UNION.true (omega arith) ((p.each loop.i less).says _ pre.1),
+    )
+
+pub loop-i-preserved-else-next-eq0 : goal.loop-i-preserved-else-next-eq0
+loop-i-preserved-else-next-eq0 c =
+    let pre = c.requires in
+    let loop = c.loop-i in
+    let less = c.loop-i-test.true in
+    let next = c.operator_at-next.ensures c.if-next-eq0.false in (
+      omega (arith, next.0),
+      omega arith,
+      loop.invariant.2,
+      λ t groups e p. evaluating_both (loop.invariant.3 t groups e p) _ _ less c.if-x-lt-UNION.true ((p.each loop.i less).says _ pre.1)
+          next.0 (omega (arith, next.1, next.2)) (λ o k. c.combine-value.ensures o (next.2 ∙ k)),
+    )
+
+pub overflow_sub-top : goal.overflow_sub-top
+overflow_sub-top c =
+    let pre = c.requires in
+    (evaluating_operator (c.loop-i.invariant.3 pre.0.0 pre.2.0 pre.0.1 pre.2.1) c.loop-i-test.true c.if-x-lt-UNION.false).0
+
+pub loop-i-preserved : goal.loop-i-preserved
+loop-i-preserved c =
+    let loop = c.loop-i in (
+      omega arith,
+      omega arith,
+      loop.invariant.2,
+      λ t groups e p. (evaluating_operator (loop.invariant.3 t groups e p) c.loop-i-test.true c.if-x-lt-UNION.false).1 _ c.combine-value-else-x-lt-UNION.ensures,
+    )
+
+pub returns : goal.returns
+returns c = λ t groups e p. evaluating_end (c.loop-i.invariant.3 t groups e p) c.loop-i-test.false
