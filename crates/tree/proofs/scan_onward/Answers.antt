@@ -7,6 +7,7 @@ use lib.ListN.{drop}
 use Rattle.tree.specs.InnerScan.{onward}
 use Rattle.tree.proofs.ScanLaws.{onward_end, onward_stop, onward_operator, onward_leaf}
 use Rattle.tree.proofs.scan_onward.Goals as goal
+use Rattle.tree.proofs.scan_onward.Goals.{then-list-i-ge-UNION, else-list-i-ge-UNION}
 
 pub loop-i-init : goal.loop-i-init
 loop-i-init c = (c.requires, omega arith, omega arith, refl)
@@ -16,8 +17,8 @@ returns-then-operands-le1 c =
     let list = c.args.list.now in
     let w = c.loop-i-test.true in
     elim c.if-list-i-ge-UNION.branch [
-      | inl p ↦ let z = p.1 in omega (arith, onward_stop list c.loop-i.i (c.loop-i.operands - 1) w p.0.taken (omega (arith, c.if-operands-le1.true)), c.loop-i.invariant.3)
-      | inr p ↦ absurd (let z = p.1 in omega (arith, c.if-operands-le1.true, c.loop-i.invariant.1))
+      | then-list-i-ge-UNION p ↦ let z = p.operands-is in omega (arith, onward_stop list c.loop-i.i (c.loop-i.operands - 1) w p.if-list-i-ge-UNION.true (omega (arith, c.if-operands-le1.true)), c.loop-i.invariant.3)
+      | else-list-i-ge-UNION p ↦ absurd (let z = p.operands-is in omega (arith, c.if-operands-le1.true, c.loop-i.invariant.1))
     ]
 
 pub loop-i-preserved : goal.loop-i-preserved
@@ -27,11 +28,11 @@ loop-i-preserved c =
     let inv = c.loop-i.invariant in
     let rest = drop (c.loop-i.i + 1) list in
     elim c.if-list-i-ge-UNION.branch [
-      | inl p ↦ let z = p.1 in
-          (omega arith, omega (arith, c.if-operands-le1.false), omega arith, omega (arith, ap (λ (k : ℕ). onward (k - 1) rest) z, onward_operator list c.loop-i.i (c.loop-i.operands - 1) w p.0.taken (omega (arith, c.if-operands-le1.false)), inv.3))
-      | inr p ↦ let z = p.1 in
+      | then-list-i-ge-UNION p ↦ let z = p.operands-is in
+          (omega arith, omega (arith, c.if-operands-le1.false), omega arith, omega (arith, ap (λ (k : ℕ). onward (k - 1) rest) z, onward_operator list c.loop-i.i (c.loop-i.operands - 1) w p.if-list-i-ge-UNION.true (omega (arith, c.if-operands-le1.false)), inv.3))
+      | else-list-i-ge-UNION p ↦ let z = p.operands-is in
           let k : c.if-list-i-ge-UNION.operands - 1 ≡ c.loop-i.operands - 1 + 1 = omega arith in
-          (omega arith, omega arith, omega arith, omega (arith, ap (λ (k : ℕ). onward k rest) k, onward_leaf list c.loop-i.i (c.loop-i.operands - 1) w p.0.left, inv.3))
+          (omega arith, omega arith, omega arith, omega (arith, ap (λ (k : ℕ). onward k rest) k, onward_leaf list c.loop-i.i (c.loop-i.operands - 1) w p.if-list-i-ge-UNION.false, inv.3))
     ]
 
 pub returns : goal.returns
