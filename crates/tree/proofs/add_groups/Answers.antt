@@ -1,6 +1,5 @@
 -- `tree::add_groups` meets its contract: the groups found so far, with those of what is left of the list, are those of the whole list.
 use mathlib.Core.Path.{refl, sym, ◌∙◌}
-use Prim.Native.Nat.{◌-◌}
 use native.Mathlib.Omega.{arith}
 use lib.ListN.{length-set}
 use lib.Seq.{length-take-le}

@@ -1,5 +1,4 @@
 -- `tree::copy` meets its contract: after i turns the first i entries of `source` are written.
-use Prim.Native.Nat.{◌-◌}
 use native.Mathlib.Omega.{arith}
 use lib.Seq.{take_all}
 use Rattle.tree.proofs.WritingLaws.{wrote_nothing, wrote_next, wrote_as}

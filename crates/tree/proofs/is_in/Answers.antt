@@ -1,6 +1,5 @@
 -- The number stands in the list exactly if it stands in what is left of it.
 use mathlib.Core.Path.{refl, sym, ◌∙◌}
-use Prim.Native.Nat.{◌-◌}
 use native.Mathlib.Omega.{arith}
 use Rattle.tree.proofs.GroupLaws.{in_here, in_on, in_none}
 use Rattle.tree.proofs.is_in.Goals as goal

@@ -1,7 +1,6 @@
 -- `tree::is_tree` meets its contract: with `waiting` trees so far, what is left of the list makes one tree exactly where the
 -- whole list is one.
 use mathlib.Core.Path.{sym, ◌∙◌}
-use Prim.Native.Nat.{◌-◌}
 use native.Mathlib.Omega.{arith}
 use Rattle.tree.proofs.ParseLaws.{formed_tree, long_no_tree, formed_group, formed_operator, formed_short, formed_neither, formed_end}
 use Rattle.tree.proofs.is_tree.Goals as goal

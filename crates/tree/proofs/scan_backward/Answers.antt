@@ -1,6 +1,5 @@
 -- `tree::scan_backward` meets its contract: the scan back from `i` with that many operands to pass comes to where that from `to` with 1 does.
 use mathlib.Core.Path.{sym, ap, ◌∙◌}
-use mathlib.Core.Logic.{inl, inr}
 use mathlib.Core.List.{reverse}
 use Prim.Native.Nat.{ℕ, ◌-◌}
 use native.Mathlib.Omega.{arith}

@@ -1,6 +1,5 @@
 -- `tree::scan_onward` meets its contract: what is left to pass at `i` is what was left at `to`, less what was passed.
 use mathlib.Core.Path.{◌≡◌, refl, ap}
-use mathlib.Core.Logic.{inl, inr}
 use Prim.Native.Nat.{ℕ, ◌+◌, ◌-◌}
 use native.Mathlib.Omega.{arith}
 use lib.ListN.{drop}
