@@ -1,6 +1,6 @@
 -- The loop's invariant: the words passed are those of the two sets combined.
 use mathlib.Core.Path.{◌≡◌}
-use Prim.Native.Nat.{◌+◌, ◌-◌, ◌*◌, ◌<◌}
+use Prim.Native.Nat.{◌+◌, ◌*◌, ◌<◌}
 use native.Mathlib.Omega.{arith}
 use lib.ListN.{length-set}
 use Rattle.player.specs.Instructions.{combined, operation_with}

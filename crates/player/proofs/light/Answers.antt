@@ -25,7 +25,7 @@ returns c f held =
     let one : 2 ^ bit ≡ word (eqb lamp) first = sym (pack_one lamp first word_width bit (omega arith) within) in
     record {
       size = simp length-set held.size;
-      entry = written (λ k word-k. k < word_count → word-k ≡ word (combined add (eqb lamp) f) (word_width * k + 1)) c.args.t1 i _ 0 (omega (arith, held.size))
+      entry = written (λ k word-k. k < word_count → word-k ≡ word (combined add (eqb lamp) f) (word_width * k + 1)) c.args.set i _ 0 (omega (arith, held.size))
           (λ lt. ap₂ bit_or (power ∙ one) (held.entry i lt) ∙ pack_union (eqb lamp) f first word_width)
           (λ k n lt. held.entry k lt ∙ union_off (eqb lamp) f (word_width * k + 1) word_width (λ other low high. ne_eqb lamp other (λ x. n (omega arith))));
     }

@@ -16,7 +16,7 @@ pub loop-i-preserved : goal.loop-i-preserved
 loop-i-preserved c =
     let old : List ℕ = c.args.lamps.now in
     let v = c.loop-i in (
-      λ f held. rw (v.invariant.0 f held) (byte_written f c.args.t1 held old (drop 64 old) (v.i - 1) v.i (omega arith) (omega arith) (omega arith)),
+      λ f held. rw (v.invariant.0 f held) (byte_written f c.args.words held old (drop 64 old) (v.i - 1) v.i (omega arith) (omega arith) (omega arith)),
       omega arith,
       simp length-set v.invariant.2,
     )
