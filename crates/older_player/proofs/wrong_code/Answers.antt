@@ -1,10 +1,9 @@
 -- The loop's invariant: the instructions passed had no fault, so that the code has one exactly if the rest has.
 use mathlib.Core.Path.{refl, sym, ◌∙◌}
 use mathlib.Core.List.{List}
-use Prim.Native.Nat.{ℕ, ◌+◌, ◌-◌}
+use Prim.Native.Nat.{ℕ, ◌+◌}
 use native.Mathlib.Omega.{arith}
 use lib.ListN.{drop, length-drop}
-use Rattle.older_player.specs.Playing.{misplaced}
 use Rattle.older_player.proofs.PlayingLaws.{code_hit, code_miss, code_end}
 use Rattle.older_player.proofs.wrong_code.Goals as goal
 
