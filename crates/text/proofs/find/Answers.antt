@@ -1,5 +1,4 @@
 -- `find`: the answer is the count ahead in the rest, added to the index.
-use Prim.Native.Nat.{◌-◌}
 use native.Mathlib.Omega.{arith}
 use Rattle.text.proofs.PartsLaws.{ahead_here, ahead_next, ahead_end}
 use Rattle.text.proofs.find.Goals as goal

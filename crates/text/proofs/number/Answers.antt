@@ -1,7 +1,5 @@
 -- `number`: what is left of the field, read from the number so far, gives the whole field's number.
 use mathlib.Core.Path.{◌∙◌, sym}
-use mathlib.Core.Logic.{⊎_elim}
-use Prim.Native.Nat.{◌-◌}
 use native.Mathlib.Omega.{arith}
 use borrow.Author.Rules.{rules}
 use Rattle.text.proofs.DecimalLaws.{number_start, number_empty, number_leading, lead_other, lead_short, after_next, after_end}
@@ -16,9 +14,7 @@ returns-then-bytes-eq-NOUGHT c =
     sym (number_leading args.bytes.now (omega arith) c.if-bytes-eq-NOUGHT.true)
 
 pub loop-i-init : goal.loop-i-init
-loop-i-init c =
-    let args = c.args in
-    (search rules, number_start _ c.if-bytes-eq0.false (⊎_elim (λ w. lead_other args.bytes.now w.2.left) (λ w. lead_short args.bytes.now w.left) c.if-bytes-gt1.branch))
+loop-i-init c = (search rules, grind (arith, number_start, lead_other, lead_short))
 
 pub loop-i-preserved : goal.loop-i-preserved
 loop-i-preserved c =

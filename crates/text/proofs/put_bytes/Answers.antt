@@ -1,5 +1,4 @@
 -- `put_bytes`: so far the first i bytes of the source have been written.
-use Prim.Native.Nat.{◌-◌}
 use native.Mathlib.Omega.{arith}
 use lib.Seq.{take_all}
 use Rattle.tree.proofs.WritingLaws.{wrote_nothing, wrote_next, wrote_as}
