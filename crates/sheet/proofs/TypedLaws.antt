@@ -127,9 +127,9 @@ accepts_tree : {rules : Rules} {end : ReadingState} {ts : List Tree} {entries gr
     → Accepts rules end (t ∷ ts) (entries ++ postfix t) (collect groups (leaves t)) (at + length (tree_lines t)) rest → Accepts rules end ts entries groups at (tree_lines t ++ rest)
 unfolding tree_lines postfix leaves collect
 accepts_tree most may (leaf g h) a = accepts_group most g h a
-accepts_tree {groups = groups} most may (node o l r) a =
+accepts_tree {rules = rules} {end = end} {ts = ts} {entries = entries} {groups = groups} {at = at} {rest = rest} most may (node o l r) a =
     simp append_assoc
-    (accepts_tree most may l (accepts_tree most may r (accepts_operator may o l r (rw (collect_append groups (leaves l) (leaves r)) at (simp (← append_assoc, length-append, ← add_assoc) at a)))))
+    (accepts_tree most may l (accepts_tree {ts = l ∷ ts} most may r (accepts_operator may o l r (rw (collect_append groups (leaves l) (leaves r)) at (simp (← append_assoc, length-append, ← add_assoc) at a)))))
 
 -- at the end one tree waits, and `E` closes it
 accepts_end : (rules : Rules) (t : Tree) (entries groups : List ℕ) (at : ℕ) → length entries ≤ rules.nodes → length groups ≤ most_groups

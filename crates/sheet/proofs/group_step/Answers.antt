@@ -6,7 +6,6 @@ use borrow.Author.Tests.{le-leb, lt-leb}
 use Rattle.sheet.specs.declared.Line.TheVariants.{Group}
 use Rattle.tree.specs.Tree.{most_groups}
 use Rattle.sheet.proofs.HoldLaws.{order_first, order_second, fault_group, stepped_faulty, stepped_group_old, stepped_group_new, different_few}
-use borrow.Author.Rules.{rules}
 use Rattle.sheet.proofs.group_step.Goals as goal
 
 pub returns-then-fault-ne0 : goal.returns-then-fault-ne0

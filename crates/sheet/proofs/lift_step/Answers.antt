@@ -2,7 +2,6 @@
 use mathlib.Core.Path.{◌∙◌}
 use Rattle.sheet.specs.declared.Line.TheVariants.{Lift}
 use Rattle.sheet.proofs.HoldLaws.{order_first, order_second, fault_lift, stepped_faulty, stepped_lift}
-use borrow.Author.Rules.{rules}
 use Rattle.sheet.proofs.lift_step.Goals as goal
 
 pub returns-then-fault-ne0 : goal.returns-then-fault-ne0

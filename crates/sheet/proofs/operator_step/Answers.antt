@@ -4,7 +4,6 @@ use native.Mathlib.Omega.{arith}
 use borrow.Author.Tests.{lt-ltb, le-ltb, le-leb, lt-leb}
 use Rattle.sheet.specs.declared.Line.TheVariants.{Operator}
 use Rattle.sheet.proofs.HoldLaws.{order_first, order_second, fault_operator, stepped_faulty, stepped_operator}
-use borrow.Author.Rules.{rules}
 use Rattle.sheet.proofs.operator_step.Goals as goal
 
 pub returns-then-fault-ne0 : goal.returns-then-fault-ne0

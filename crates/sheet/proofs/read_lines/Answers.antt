@@ -1,6 +1,5 @@
 -- `read_lines`: what is left of the lines, read from the present state, gives the whole sheet's outcome.
 use mathlib.Core.Path.{◌≡◌, refl, sym, ap, ◌∙◌}
-use Prim.Native.Nat.{◌-◌}
 use native.Mathlib.Omega.{arith}
 use lib.ListN.{length}
 use Rattle.sheet.specs.Rules.{with_nodes, with_tasks, sheet_rules}
@@ -63,33 +62,32 @@ pub shape_of-tree-then-p-ne0 : goal.shape_of-tree-then-p-ne0
 shape_of-tree-then-p-ne0 c =
     let loop = c.loop-at in
     let step = c.step-p in
-    step.auto.1.1.1.0 ∙ tree_long loop.invariant.3.held
+    step.auto.tree ∙ tree_long loop.invariant.3.held
 
 pub shape_of-marks-then-p-ne0 : goal.shape_of-marks-then-p-ne0
 shape_of-marks-then-p-ne0 c =
     let step = c.step-p in
-    step.auto.1.1.1.1.1.0 ∙ marks-were c.before.before.before.before.before.before.before
+    step.auto.marks ∙ marks-were (goal.at.shape_of-marks-then-p-ne0 c).After-step-p
 
 pub returns-then-p-ne0 : goal.returns-then-p-ne0
 returns-then-p-ne0 c =
     let loop = c.loop-at in
     let loop-test = c.loop-at-test in
-    rw (running_refused loop.invariant.3 loop-test.true (stepped c.before.before.before.before.before.before.before) c.if-p-ne0.true) (record { fault = refl; line_is = refl; some = c.if-p-ne0.true })
+    rw (running_refused loop.invariant.3 loop-test.true (stepped (goal.at.returns-then-p-ne0 c).After-step-p) c.if-p-ne0.true) (record { fault = refl; line_is = refl; some = c.if-p-ne0.true })
 
 pub loop-at-smaller : goal.loop-at-smaller
 loop-at-smaller c =
     let loop-test = c.loop-at-test in
-    omega (arith, (one-read c.before.before.before.before.before.before.before).more, (one-read c.before.before.before.before.before.before.before).within, loop-test.true)
+    omega (arith, (one-read (goal.at.loop-at-smaller c).After-step-p).more, (one-read (goal.at.loop-at-smaller c).After-step-p).within, loop-test.true)
 
 pub loop-at-preserved : goal.loop-at-preserved
 loop-at-preserved c =
     let loop = c.loop-at in
-    let loop-test = c.loop-at-test in
-    (
+    let loop-test = c.loop-at-test in (
       loop.invariant.0,
-      (one-read c.before.before.before.before.before.before.before).within,
-      omega (arith, (one-read c.before.before.before.before.before.before.before).more, (stepped c.before.before.before.before.before.before.before).counted, loop.invariant.2),
-      rw (line_is c.before.before.before.before.before.before.before) (running_next loop.invariant.3 loop-test.true (stepped c.before.before.before.before.before.before.before) c.if-p-ne0.false),
+      (one-read (goal.at.loop-at-preserved c).After-step-p).within,
+      omega (arith, (one-read (goal.at.loop-at-preserved c).After-step-p).more, (stepped (goal.at.loop-at-preserved c).After-step-p).counted, loop.invariant.2),
+      rw (line_is (goal.at.loop-at-preserved c).After-step-p) (running_next loop.invariant.3 loop-test.true (stepped (goal.at.loop-at-preserved c).After-step-p) c.if-p-ne0.false),
     )
 
 pub shape_of-tree-then-p-eq-ENDED : goal.shape_of-tree-then-p-eq-ENDED

@@ -3,7 +3,6 @@ use mathlib.Core.Path.{sym, ◌∙◌}
 use native.Mathlib.Omega.{arith}
 use Rattle.sheet.specs.declared.Line.TheVariants.{Bad}
 use Rattle.sheet.proofs.HoldLaws.{stepped_faulty, fault_place, fault_bad, tasks_may}
-use borrow.Author.Rules.{rules}
 use Rattle.sheet.proofs.step.Goals as goal
 
 pub returns-then-fault-ne0 : goal.returns-then-fault-ne0
@@ -18,14 +17,12 @@ returns-in-Bad c = λ rules st a r h. rw c.in-Bad.is (stepped_faulty h Bad _ _ _
 
 pub returns-in-Group : goal.returns-in-Group
 returns-in-Group c =
-    let line = c.line-1 in
     let group-step = c.group_step in
-    λ rules st a r h. let e = line.given.1 in rw e (group-step.ensures _ rules st (rw e at r) h)
+    λ rules st a r h. let e = c.in-Group.is in rw e (group-step.ensures _ rules st (rw e at r) h)
 
 pub returns-in-Operator : goal.returns-in-Operator
 returns-in-Operator c =
-    let line2 = c.line-in-Operator-1 in
-    λ rules st a r h. let e = line2.given.1 in rw e (c.operator_step.ensures _ _ rules st (rw e at r) h)
+    λ rules st a r h. let e = c.in-Operator.is in rw e (c.operator_step.ensures _ _ rules st (rw e at r) h)
 
 pub returns-in-Lift : goal.returns-in-Lift
 returns-in-Lift c =
@@ -36,10 +33,9 @@ returns-in-Lift c =
 
 pub returns-in-Mark : goal.returns-in-Mark
 returns-in-Mark c =
-    let line3 = c.line-in-Mark-1 in
     let fault = c.place_fault-fault.ensures in
     let none = c.if-fault-ne0.false in
-    λ rules st a r h. let e = line3.given.1 in
+    λ rules st a r h. let e = c.in-Mark.is in
     rw e (c.mark_step.ensures _ _ rules st (a ∙ tasks_may _ (rw e at (sym fault ∙ none))) (rw e at r) h)
 
 pub returns-in-End : goal.returns-in-End
