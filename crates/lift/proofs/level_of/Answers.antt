@@ -26,4 +26,4 @@ loop-i-preserved c =
 pub returns : goal.returns
 returns c = let l = c.loop-i in
     let e : l.level ≡ rises 0 (drop c.args.to c.args.list.now) = omega (arith, l.invariant.3, rises_end c.args.list.now l.i l.operands c.loop-i-test.false) in
-    ((λ from a k P. e ∙ part_level P), omega (arith, l.invariant))
+    record { by_index = (λ from a k P. e ∙ part_level P); upper_bound = omega (arith, l.invariant) }

@@ -35,7 +35,7 @@ returns-then-levels-level c = λ m K.
     let W = given c.before.before.before in
     let q = c.if-tree-position.false in
     let P = the_part m (length g.out.now) g.tree.now g.position g.levels if1.false W q in
-    let e = says_14 m (length g.out.now) g.tree.now g.position g.levels if1.false W q c.level_of-level.result (c.level_of-level.ensures.0 _ _ _ P) c.if-levels-level.true in
+    let e = says_14 m (length g.out.now) g.tree.now g.position g.levels if1.false W q c.level_of-level.result (c.level_of-level.ensures.by_index _ _ _ P) c.if-levels-level.true in
     refuses e
 
 pub lift_part-requires : goal.lift_part-requires
@@ -46,7 +46,7 @@ lift_part-requires c =
     let W = given c.before.before.before.before in
     let P = the_part c.requires.0 (length g.out.now) g.tree.now g.position g.levels if1.false W if3.false in
     let most : length g.tree.now ≤ most_nodes = omega (arith, ap length W.list, postfix_length W.tree, W.most) in
-    ((_, _, _, P), ((most, if1.false), (omega (arith, most, c.level_of-level.ensures.1, levels_below g.levels c.level_of-level.result c.if-levels-level.false), c.requires)))
+    record { ends = (_, _, _, P); list_len_bound = (most, if1.false); levels_le_most_nodes = omega (arith, most, c.level_of-level.ensures.upper_bound, levels_below g.levels c.level_of-level.result c.if-levels-level.false); some_table = c.requires }
 
 pub returns-else-levels-level : goal.returns-else-levels-level
 returns-else-levels-level c = λ m K.
@@ -58,7 +58,7 @@ returns-else-levels-level c = λ m K.
     let W = given c.before.before.before.before.before.before.before in
     let q = if3.false in
     let P = the_part m (length g.out.now) g.tree.now g.position g.levels if1.false W q in
-    let e = runs_on m (length g.out.now) g.tree.now g.position g.levels if1.false W q level-of.result (level-of.ensures.0 _ _ _ P) if4.false in
+    let e = runs_on m (length g.out.now) g.tree.now g.position g.levels if1.false W q level-of.result (level-of.ensures.by_index _ _ _ P) if4.false in
     lifts_same e ((c.lift_part.ensures m K).lifts _ _ _ P)
 
 pub returns-else-is_tree : goal.returns-else-is_tree

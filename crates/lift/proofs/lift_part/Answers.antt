@@ -24,20 +24,20 @@ stands : (c : After-copy) (from : ℕ) (a : Tree) (k : List Frame) → let g = c
     → Standing (take (length g.list.now) c.copy.new.out) (record { from = c.part_start-from.result; to = g.to; state = c.first_state-state.result }) a k
 stands c from a k P =
     let Q = from_start c.before.before.before from a k P in
-    stands_first c.copy.ensures c.requires.1.0.0 Q (c.first_state-state.ensures a k Q)
+    stands_first c.copy.ensures c.requires.list_len_bound.0 Q (c.first_state-state.ensures a k Q)
 
 pub part_start-from-requires : goal.part_start-from-requires
-part_start-from-requires c = omega (arith, part_length c.requires.0.3)
+part_start-from-requires c = omega (arith, part_length c.requires.ends.3)
 
 pub first_state-state-requires : goal.first_state-state-requires
 first_state-state-requires c =
     let pre = c.requires in
-    let L = pre.0 in (_, _, from_start c L.0 L.1 L.2 L.3)
+    let L = pre.ends in (_, _, from_start c L.0 L.1 L.2 L.3)
 
 pub run-requires : goal.run-requires
 run-requires c =
-    let L = c.requires.0 in
-    ((_, _, stands c.before.before.before.before L.0 L.1 L.2 L.3), ((c.requires.1.0.0, search rules), ((omega arith, c.requires.1.0.1), (omega (arith, c.requires.1.1.0), c.requires.1.1.1))))
+    let L = c.requires.ends in
+    record { stands = (_, _, stands c.before.before.before.before c.requires.ends.0 c.requires.ends.1 c.requires.ends.2 c.requires.ends.3); nodes_le_most_nodes = (c.requires.list_len_bound.0, search rules); most_nodes_in_bounds = (omega arith, c.requires.list_len_bound.1); levels_bound = omega (arith, c.requires.levels_le_most_nodes); some_table = c.requires.some_table }
 
 pub returns : goal.returns
 returns c =

@@ -21,7 +21,7 @@ pub is_row-requires : goal.is_row-requires
 is_row-requires c =
     let loop = c.loop-place in
     let signs = c.args.table.signs in
-    (ap length (row_part loop.place signs) ∙ length-take-le 31 (drop (31 * loop.place) signs) (simp length-drop (omega (arith, loop.invariant, c.loop-place-test.true))), within c.loop-place-test.true tt)
+    record { row_len = ap length (row_part loop.place signs) ∙ length-take-le 31 (drop (31 * loop.place) signs) (simp length-drop (omega (arith, loop.invariant, c.loop-place-test.true))); place_bound = within c.loop-place-test.true tt }
 
 pub loop-place-preserved : goal.loop-place-preserved
 loop-place-preserved c =

@@ -25,7 +25,7 @@ stands-requires c = let e = slice-aggregate-stands c in let h = sub-all-zero c.b
 pub returns-then-all_zero : goal.returns-then-all_zero
 returns-then-all_zero c =
     let args = c.args in
-    let h = c.requires.1 in
+    let h = c.requires.place_bound in
     c.stands.ensures (place_at args.place).state (place_at args.place).input (sym (place_number_lem args.place h))
     ∙ sym (row_tested (place_at args.place) args.row.now args.n c.all_zero.result true true c.if-n.true (c.all_zero.ensures ∙ ap all_zero (rest_all args.n args.row.now)) c.if-all_zero.true)
 

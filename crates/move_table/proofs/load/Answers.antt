@@ -41,7 +41,7 @@ stands-requires c =
     let n = c.line_signs-n.result in
     let told = c.line_signs-n.ensures ∙ ap (line_signs (place_at loop.place)) (rest_all loop.at bytes) in
     let line = line_counted (place_at loop.place) (drop loop.at bytes) n told c.if-n-eq0.false in
-    (rw (word_part loop.at n bytes) (word_few (place_at loop.place) (drop loop.at bytes) n line), within c.loop-place-test.true tt)
+    record { word_len_bound = rw (word_part loop.at n bytes) (word_few (place_at loop.place) (drop loop.at bytes) n line); place_bound = within c.loop-place-test.true tt }
 
 pub returns-then-not-stands : goal.returns-then-not-stands
 returns-then-not-stands c =

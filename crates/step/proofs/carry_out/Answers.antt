@@ -9,15 +9,15 @@ use Rattle.step.proofs.carry_out.Goals as goal
 
 -- src/lib.rt:138:11
 pub replace-requires : goal.replace-requires
-replace-requires c = let P = c.requires in let C = P.0.3 in let w = part_range C.plan.stretch in (within C.plan (part_range C.stands.part), ((w.low, w.high), ((P.1.0, P.1.1), P.1.2)))
+replace-requires c = let P = c.requires in let C = P.carries_some.3 in let w = part_range C.plan.stretch in (within C.plan (part_range C.stands.part), ((w.low, w.high), ((P.list_len_bound.0, P.list_len_bound.1), P.list_len_bound.2)))
 
 -- src/lib.rt:143:30
 pub overflow_sub-next : goal.overflow_sub-next
-overflow_sub-next c = let C = c.requires.0.3 in omega (arith, C.stands.part.ends)
+overflow_sub-next c = let C = c.requires.carries_some.3 in omega (arith, c.requires.carries_some.3.stands.part.ends)
 
 -- src/lib.rt:143:21
 pub overflow_add-next : goal.overflow_add-next
-overflow_add-next c = let C = c.requires.0.3 in omega (arith, ends_within C.plan C.stands C.its_word c.replace.ensures c.in-Done.is)
+overflow_add-next c = let C = c.requires.carries_some.3 in omega (arith, ends_within c.requires.carries_some.3.plan c.requires.carries_some.3.stands c.requires.carries_some.3.its_word c.replace.ensures c.in-Done.is)
 
 -- src/lib.rt:119:1
 pub returns-in-TooLong : goal.returns-in-TooLong

@@ -28,7 +28,7 @@ plan c m K a k S =
 
 -- src/lib.rt:212:13
 pub replace_by-requires : goal.replace_by-requires
-replace_by-requires c = let P = c.requires in let S = P.0.0 in ((P.0.1.0, P.0.1.1, (S.0, S.1, S.2, plan c.before P.0.1.0 P.0.1.1 S.0 S.1 S.2)), P.1)
+replace_by-requires c = let P = c.requires in let S = P.stands.0 in ((P.stands.1.0, P.stands.1.1, (S.0, S.1, S.2, plan c.before P.stands.1.0 P.stands.1.1 S.0 S.1 S.2)), P.list_len_bound)
 
 -- src/lib.rt:195:1
 pub returns-in-Stuck : goal.returns-in-Stuck

@@ -1,6 +1,6 @@
 -- `frame_after` meets its contract: what is left to find at `i` is what was at `from`.
 use mathlib.Core.Path.{◌∙◌}
-use Prim.Native.Nat.{◌+◌, ◌-◌}
+use Prim.Native.Nat.{◌+◌}
 use native.Mathlib.Omega.{arith}
 use Rattle.words.proofs.AboveLaws.{after_end, after_part, after_other, after_frame, after_operator, no_frame, a_frame}
 use Rattle.words.proofs.frame_after.Goals as goal

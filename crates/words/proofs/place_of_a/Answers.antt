@@ -1,6 +1,5 @@
 -- `place_of_a` meets its contract: after i turns none of the first i signs is A.
 use mathlib.Core.Path.{sym, ◌∙◌}
-use Prim.Native.Nat.{◌-◌}
 use native.Mathlib.Omega.{arith}
 use Rattle.words.proofs.WordLaws.{leading_more, leading_at, leading_all}
 use Rattle.words.proofs.AboveLaws.{trailing_more, trailing_at, trailing_end}

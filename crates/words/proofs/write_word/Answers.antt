@@ -1,6 +1,6 @@
 -- `write_word` meets its contract: after i turns, what the first i signs stand for has been written.
 use mathlib.Core.Path.{sym, ap}
-use Prim.Native.Nat.{◌+◌, ◌-◌}
+use Prim.Native.Nat.{◌+◌}
 use native.Mathlib.Omega.{arith}
 use lib.Seq.{take_all}
 use Rattle.tree.proofs.WritingLaws.{wrote_nothing, wrote_then, wrote_as}
@@ -15,17 +15,17 @@ loop-i-init c =
     (omega arith, wrote_nothing args.out.now args.at)
 
 pub write_sign-next-requires : goal.write_sign-next-requires
-write_sign-next-requires c = let l = c.loop-i in (
-      c.requires.0,
-      omega (
-        arith,
-        c.requires.1,
-        l.invariant.1.ends,
-        l.invariant.1.same,
-        spell_more_length c.args.list.now c.args.from c.args.to c.args.word.now l.i c.loop-i-test.true,
-        spell_short c.args.list.now c.args.from c.args.to c.args.word.now (l.i + 1),
-      ),
-    )
+write_sign-next-requires c = let l = c.loop-i in record {
+  within = c.requires.within;
+  sign_in_bounds = omega (
+    arith,
+    c.requires.word_in_bounds,
+    l.invariant.1.ends,
+    l.invariant.1.same,
+    spell_more_length c.args.list.now c.args.from c.args.to c.args.word.now l.i c.loop-i-test.true,
+    spell_short c.args.list.now c.args.from c.args.to c.args.word.now (l.i + 1),
+  );
+}
 
 pub loop-i-preserved : goal.loop-i-preserved
 loop-i-preserved c =
