@@ -1,13 +1,20 @@
 -- `combine` meets its contract: by cases on the operator and on the operands' values.
-use Rattle.tree.specs.Tree.{plus, minus}
-use Rattle.left_sides.proofs.MeaningLaws.{either_value}
+use mathlib.Core.Path.{◌≡◌, refl}
+use mathlib.Core.Bool.{Bool, true, false, ◌&&◌, ◌||◌, not}
+use lib.Dec.{eqb}
+use Rattle.tree.specs.Tree.{Basic, plus, minus, operator_of, apply}
+use Rattle.words.specs.Word.{operator_sign}
 use Rattle.left_sides.proofs.combine.Goals as goal
 
+combined_as : (o : Basic) (a b : Bool) → ((a && not b) || (b && eqb (operator_sign o) 43)) ≡ apply (operator_of o) a b
+combined_as plus true true = refl
+combined_as plus true false = refl
+combined_as plus false true = refl
+combined_as plus false false = refl
+combined_as minus true true = refl
+combined_as minus true false = refl
+combined_as minus false true = refl
+combined_as minus false false = refl
+
 pub returns : goal.returns
-returns c = λ o e.
-    let a = c.args.a in
-    let b = c.args.b in
-    rw e (elim o [
-      | plus ↦ either_value a (λ p. either_value b (λ q. rw (p, q)) (λ q. rw (p, q))) (λ p. either_value b (λ q. rw (p, q)) (λ q. rw (p, q)))
-      | minus ↦ either_value a (λ p. either_value b (λ q. rw (p, q)) (λ q. rw (p, q))) (λ p. either_value b (λ q. rw (p, q)) (λ q. rw (p, q)))
-    ])
+returns c = λ o e. rw e (combined_as o c.args.a c.args.b)

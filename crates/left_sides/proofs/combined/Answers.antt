@@ -1,6 +1,5 @@
 -- `combined` meets its contract. The loop's invariant: the array's first i values and what is left of the lists make up the whole.
 use mathlib.Core.Path.{refl}
-use Prim.Native.Nat.{◌-◌}
 use native.Mathlib.Omega.{arith}
 use lib.ListN.{length-set}
 use Rattle.tree.specs.Tree.{operator_of, apply}
@@ -16,11 +15,11 @@ loop-i-preserved c =
     let loop = c.loop-i in (
       omega arith,
       simp length-set loop.invariant.1,
-      λ o e. filled_more _ _ loop.out _ loop.i _ (omega arith) (rw (c.combine.ensures o e) (zip_more (apply (operator_of o)) args.t2 args.t3 loop.i (omega arith) (omega arith))) (loop.invariant.2 o e),
+      λ o e. filled_more _ _ loop.out _ loop.i _ (omega arith) (rw (c.combine.ensures o e) (zip_more (apply (operator_of o)) args.x args.y loop.i (omega arith) (omega arith))) (loop.invariant.2 o e),
     )
 
 pub returns : goal.returns
 returns c =
     let args = c.args in
     let loop = c.loop-i in
-    λ o e. filled_end _ _ loop.out loop.i (omega arith) (zip_end (apply (operator_of o)) args.t2 args.t3 loop.i (omega arith)) (loop.invariant.2 o e)
+    λ o e. filled_end _ _ loop.out loop.i (omega arith) (zip_end (apply (operator_of o)) args.x args.y loop.i (omega arith)) (loop.invariant.2 o e)

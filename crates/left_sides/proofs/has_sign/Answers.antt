@@ -1,7 +1,6 @@
 -- `has_sign` meets its contract. The loop's invariant: the array's first i values and what is left of the row make up the whole.
 use mathlib.Core.Path.{refl, ap}
 use mathlib.Core.List.{map}
-use Prim.Native.Nat.{◌-◌}
 use native.Mathlib.Omega.{arith}
 use lib.Dec.{eqb}
 use lib.ListN.{length-set, drop_of_length-le}
@@ -18,11 +17,11 @@ loop-i-preserved c =
     let loop = c.loop-i in (
       omega arith,
       simp length-set loop.invariant.1,
-      filled_more _ _ loop.out _ loop.i _ (omega arith) (ap (map (λ b. eqb b args.sign)) (here args.t1 loop.i (omega arith))) loop.invariant.2,
+      filled_more _ _ loop.out _ loop.i _ (omega arith) (ap (map (λ b. eqb b args.sign)) (here args.row loop.i (omega arith))) loop.invariant.2,
     )
 
 pub returns : goal.returns
 returns c =
     let args = c.args in
     let loop = c.loop-i in
-    filled_end _ _ loop.out loop.i (omega arith) (ap (map (λ b. eqb b args.sign)) (drop_of_length-le args.t1 {i = loop.i} (omega arith))) loop.invariant.2
+    filled_end _ _ loop.out loop.i (omega arith) (ap (map (λ b. eqb b args.sign)) (drop_of_length-le args.row {i = loop.i} (omega arith))) loop.invariant.2

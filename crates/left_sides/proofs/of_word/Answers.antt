@@ -1,18 +1,11 @@
 -- `of_word` meets its contract. The loop's invariant: the array's first values are known of the formulas that wait (`Reading`).
 use mathlib.Core.Path.{refl, sym, ap}
-use mathlib.Core.Bool.{false}
-use mathlib.Core.List.{[]}
-use Prim.Native.Nat.{◌-◌}
 use native.Mathlib.Omega.{arith}
 use lib.ListN.{get_or, length-set}
-use Rattle.left_sides.specs.declared.Known.{Known}
 use Rattle.left_sides.specs.InnerKnown.{if_known}
 use Rattle.left_sides.proofs.ReadingLaws.{part_sign, operator_sign_lem, reading_start, reading_part, reading_operator, reading_neither, reading_few, reading_several, reading_end}
+use Rattle.left_sides.proofs.of_word.Invariants.{outside}
 use Rattle.left_sides.proofs.of_word.Goals as goal
-
--- what a read outside the array would give
-abbrev outside : Known
-outside = record { names = false; once = false; level = 0; meaning = [] }
 
 pub loop-i-init : goal.loop-i-init
 loop-i-init c = (omega arith, omega arith, refl, reading_start outside _ _)
