@@ -101,7 +101,7 @@ module _ {m : MoveTable} {l : List ℕ} {n : Node} {c : List Frame} {alone : Boo
         answered : ReplacedBy (postfix (plug a (e ++ H.r))) (length (before (e ++ H.r))) made out
         answered =
             subst (λ (xs : List ℕ). ReplacedBy xs (length (before (e ++ H.r))) made out) new_list
-            (subst (λ (k : ℕ). ReplacedBy (replaced l from to w whole.from whole.to) k made out) new_start Q.by_word_lem)
+            (subst (λ (k : ℕ). ReplacedBy (replaced l from to w whole.from whole.to) k made out) new_start Q.by_word)
 
         pub too_long : made ≡ TooLong → StepTooLong m a c
         too_long q = let h = subst (λ (k : Replacement). ReplacedBy (postfix (plug a (e ++ H.r))) (length (before (e ++ H.r))) k out) q answered in
