@@ -1,24 +1,18 @@
 use mathlib.Core.Path.{refl, ◌∙◌}
-use Prim.Native.Nat.{◌≤◌, ◌-◌}
 use native.Mathlib.Omega.{arith}
-use lib.ListN.{get_or, length-set}
-use Rattle.tree.specs.Tree.{most_groups}
+use lib.ListN.{length-set}
 use Rattle.table.proofs.EvalLaws.{evaluating_start, evaluating_leaf, evaluating_both, evaluating_operator, evaluating_end}
 use Rattle.table.proofs.eval.Goals as goal
-use Rattle.table.proofs.eval.Goals.{After-leaf-1}
 
 pub loop-i-init : goal.loop-i-init
 loop-i-init c = (omega arith, omega arith, refl, λ t groups e p. evaluating_start e)
 
--- a leaf's place is one of a row's bits, or the bit after them
-small : (c : After-leaf-1) → get_or c.args.places.now c.loop-i.i 0 ≤ most_groups
-small c = (c.requires.2.1.each _ c.loop-i-test.true).small
-
+-- here and below: a leaf's place is one of a row's bits, or the bit after them
 pub overflow_cast-leaf : goal.overflow_cast-leaf
-overflow_cast-leaf c = omega (arith, small c)
+overflow_cast-leaf c = omega (arith, (c.requires.2.1.each _ c.loop-i-test.true).small)
 
 pub overflow_shr-leaf : goal.overflow_shr-leaf
-overflow_shr-leaf c = omega (arith, small c)
+overflow_shr-leaf c = omega (arith, (c.requires.2.1.each _ c.loop-i-test.true).small)
 
 pub loop-i-preserved-then-next-eq0 : goal.loop-i-preserved-then-next-eq0
 loop-i-preserved-then-next-eq0 c =

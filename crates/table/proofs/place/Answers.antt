@@ -1,4 +1,3 @@
-use Prim.Native.Nat.{◌-◌}
 use native.Mathlib.Omega.{arith}
 use Rattle.table.proofs.TableLaws.{past_none, past_more, place_here, place_end, place_last}
 use Rattle.table.proofs.place.Goals as goal
