@@ -1,6 +1,5 @@
 -- `are_entries`: the numbers that are left are entries exactly if all are.
 use mathlib.Core.Path.{refl, sym, ◌∙◌}
-use Prim.Native.Nat.{◌-◌}
 use native.Mathlib.Omega.{arith}
 use Rattle.questions.proofs.TurnLaws.{entries_on, entries_stop, entries_end}
 use Rattle.questions.proofs.are_entries.Goals as goal
@@ -16,11 +15,3 @@ returns-else-is_in c = sym (sym c.loop-i.invariant.1 ∙ entries_stop c.args.lis
 
 pub returns : goal.returns
 returns c = sym (sym c.loop-i.invariant.1 ∙ entries_end c.args.list.now c.loop-i.i c.loop-i-test.false)
-
--- LEFT
--- abbrev invariant-loop : tie.invariant-loop
--- invariant-loop list i₀ t3 i = (i ≤ length list) × (are_entries (drop i list) ≡ are_entries list)
-
--- LEFT
--- abbrev decreases-loop : tie.decreases-loop
--- decreases-loop list i₀ t3 i = length list - i

@@ -1,5 +1,4 @@
 -- `index_in`: what is left of the list gives, from `index` on, the whole list's index.
-use Prim.Native.Nat.{◌-◌}
 use native.Mathlib.Omega.{arith}
 use lib.ListN.{get_or}
 use Rattle.questions.proofs.TurnLaws.{after_most, reading_none, reading_fits, reading_more, reading_all}

@@ -1,5 +1,4 @@
 -- `list_at`: what is written so far is the front of the list, and the rest has index `rest` among those that go on.
-use Prim.Native.Nat.{◌-◌}
 use native.Mathlib.Omega.{arith}
 use Rattle.questions.proofs.TurnLaws.{after_most, writing_none, writing_below, writing_fits, writing_more, written_all}
 use Rattle.questions.proofs.list_at.Goals as goal
