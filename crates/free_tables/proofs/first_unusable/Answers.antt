@@ -1,5 +1,4 @@
 use mathlib.Core.Path.{sym, ◌∙◌}
-use Prim.Native.Nat.{◌-◌}
 use native.Mathlib.Nat.{zero-mod}
 use native.Mathlib.Omega.{arith}
 use Rattle.forms.specs.InnerForms.{may_use}
@@ -31,7 +30,7 @@ loop-r-preserved c =
     let args = c.args in
     let loop = c.loop-r in
     let pair-at = c.pair_at-pair in
-    let passes = sym (c.may_use-good.ensures ∙ pair_rule (may_use args.form) (record { on = args.on.now; off = args.off.now }) _ loop.r loop.k loop.invariant.0 pair-at.ensures.0 pair-at.ensures.1) ∙ c.if-good.true in (
+    let passes = sym (c.may_use-good.ensures ∙ pair_rule (may_use args.form) (record { on = args.on.now; off = args.off.now }) _ loop.r loop.k loop.invariant.0 pair-at.ensures.low_value pair-at.ensures.high_value) ∙ c.if-good.true in (
       place_turn loop.r loop.k _ _ loop.invariant.0 c.next_place-k.ensures,
       omega arith,
       sym (failing_turn _ loop.r _ c.loop-r-test.true passes) ∙ loop.invariant.2,
@@ -42,7 +41,7 @@ returns-else-good c =
     let args = c.args in
     let loop = c.loop-r in
     let pair-at = c.pair_at-pair in
-    let fails = sym (c.may_use-good.ensures ∙ pair_rule (may_use args.form) (record { on = args.on.now; off = args.off.now }) _ loop.r loop.k loop.invariant.0 pair-at.ensures.0 pair-at.ensures.1) ∙ c.if-good.false in
+    let fails = sym (c.may_use-good.ensures ∙ pair_rule (may_use args.form) (record { on = args.on.now; off = args.off.now }) _ loop.r loop.k loop.invariant.0 pair-at.ensures.low_value pair-at.ensures.high_value) ∙ c.if-good.false in
     sym (failing_stop _ loop.r _ c.loop-r-test.true fails) ∙ loop.invariant.2
 
 pub returns : goal.returns

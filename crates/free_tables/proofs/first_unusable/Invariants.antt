@@ -7,7 +7,7 @@ use Rattle.free_tables.proofs.first_unusable.Given as goal
 
 abbrev pub invariant-loop-r : goal.invariant-loop-r
 invariant-loop-r l =
-    (l.k ≡ l.r % l.step) × (l.r ≤ l.count) × (first_failing (at_pair (may_use l.form) (record { l.on = l.on; l.off = l.off }) l.step) (l.count - l.r) l.r ≡ first_failing (at_pair (may_use l.form) (record { l.on = l.on; l.off = l.off }) l.step) l.count 0)
+    (l.k ≡ l.r % l.step) × (l.r ≤ l.count) × (first_failing (at_pair (may_use l.form) (record { on = l.on; off = l.off }) l.step) (l.count - l.r) l.r ≡ first_failing (at_pair (may_use l.form) (record { on = l.on; off = l.off }) l.step) l.count 0)
 
 abbrev pub decreases-loop-r : goal.decreases-loop-r
 decreases-loop-r l = l.count - l.r

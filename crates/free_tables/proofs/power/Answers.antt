@@ -1,5 +1,5 @@
 use mathlib.Core.Path.{refl, ap, ◌∙◌}
-use Prim.Native.Nat.{◌-◌, ◌^◌}
+use Prim.Native.Nat.{◌^◌}
 use native.Mathlib.Omega.{arith}
 use Rattle.free_tables.proofs.SplitLaws.{power_turn, power_small}
 use Rattle.free_tables.proofs.power.Goals as goal

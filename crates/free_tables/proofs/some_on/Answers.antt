@@ -1,6 +1,5 @@
 use mathlib.Core.Path.{sym, ap, ◌∙◌}
 use mathlib.Core.Bool.{not}
-use Prim.Native.Nat.{◌-◌}
 use native.Mathlib.Omega.{arith}
 use Rattle.free_tables.proofs.SearchLaws.{failing_turn, failing_stop, failing_end, failing_start}
 use Rattle.free_tables.proofs.SplitLaws.{some_here, some_none}

@@ -1,11 +1,10 @@
 use mathlib.Core.Path.{refl, sym, ◌∙◌}
-use Prim.Native.Nat.{◌<◌, ◌-◌}
+use Prim.Native.Nat.{◌<◌}
 use native.Mathlib.Nat.{zero-mod}
 use native.Mathlib.Omega.{arith}
 use Rattle.forms.specs.InnerForms.{first_row, second_row}
 use Rattle.free_tables.proofs.SplitLaws.{place_turn, place_below, place_row, pair_inside, pair_rule, filled_start, filled_turn, first_held, second_held}
 use Rattle.free_tables.proofs.split.Goals as goal
-use Rattle.free_tables.proofs.split.Goals.{After-second_row-b}
 
 pub loop-r-init : goal.loop-r-init
 loop-r-init c = (sym (zero-mod _), omega arith, filled_start _ _ _ _ _ refl, filled_start _ _ _ _ _ refl)
@@ -23,21 +22,18 @@ pair_at-pair-requires c =
     let s = c.requires in
     (pair_inside s _ _ c.loop-r.invariant.0 c.loop-r-test.true, s.same)
 
--- a part of a table has at most 128 rows
-below : (c : After-second_row-b) → c.loop-r.r < 128
-below c = let s = c.requires in omega (arith, s.most)
-
+-- here and below: a part of a table has at most 128 rows
 pub bounds-a_on-r : goal.bounds-a_on-r
-bounds-a_on-r c = below c
+bounds-a_on-r c = omega (arith, c.requires.most)
 
 pub bounds-a_off-r : goal.bounds-a_off-r
-bounds-a_off-r c = below c
+bounds-a_off-r c = omega (arith, c.requires.most)
 
 pub bounds-b_on-r : goal.bounds-b_on-r
-bounds-b_on-r c = below c
+bounds-b_on-r c = omega (arith, c.requires.most)
 
 pub bounds-b_off-r : goal.bounds-b_off-r
-bounds-b_off-r c = below c
+bounds-b_off-r c = omega (arith, c.requires.most)
 
 pub next_place-k-requires : goal.next_place-k-requires
 next_place-k-requires c = place_below c.requires _ _ c.loop-r.invariant.0
@@ -47,11 +43,12 @@ loop-r-preserved c =
     let args = c.args in
     let loop = c.loop-r in
     let pair-at = c.pair_at-pair in
-    let less = below c.before in (
+    let most = c.requires.most in
+    let less : loop.r < 128 = omega (arith, most) in (
       place_turn loop.r loop.k _ _ loop.invariant.0 c.next_place-k.ensures,
       omega arith,
-      filled_turn loop.invariant.2 less (c.first_row-a.ensures ∙ pair_rule (first_row args.form) (record { on = args.on.now; off = args.off.now }) _ loop.r loop.k loop.invariant.0 pair-at.ensures.0 pair-at.ensures.1),
-      filled_turn loop.invariant.3 less (c.second_row-b.ensures ∙ pair_rule (second_row args.form) (record { on = args.on.now; off = args.off.now }) _ loop.r loop.k loop.invariant.0 pair-at.ensures.0 pair-at.ensures.1),
+      filled_turn loop.invariant.2 less (c.first_row-a.ensures ∙ pair_rule (first_row args.form) (record { on = args.on.now; off = args.off.now }) _ loop.r loop.k loop.invariant.0 pair-at.ensures.low_value pair-at.ensures.high_value),
+      filled_turn loop.invariant.3 less (c.second_row-b.ensures ∙ pair_rule (second_row args.form) (record { on = args.on.now; off = args.off.now }) _ loop.r loop.k loop.invariant.0 pair-at.ensures.low_value pair-at.ensures.high_value),
     )
 
 pub returns : goal.returns

@@ -13,4 +13,4 @@ pair_at-pair-requires c =
 pub returns : goal.returns
 returns c =
     let pair-at = c.pair_at-pair in
-    usable_says _ _ _ _ _ _ _ _ c.first_unusable-first.ensures pair-at.ensures.0 pair-at.ensures.1 c.first_row-a.ensures c.second_row-b.ensures
+    usable_says _ _ _ _ _ _ _ _ c.first_unusable-first.ensures pair-at.ensures.low_value pair-at.ensures.high_value c.first_row-a.ensures c.second_row-b.ensures
