@@ -1,9 +1,12 @@
 // Printing, for the programs.
 #![tactic(auto)]
 
+use std::io;
+
 // Prints the first `count` bytes.
-pub fn print(bytes: &[u8], count: usize) {
+pub fn print(rt: &impl Print, bytes: &[u8], count: usize) -> io::Result<()> {
     if count <= bytes.len() {
-        io::write_all(libc::STDOUT_FILENO, &bytes[..count]);
+        rt.write_all(&bytes[..count])?;
     }
+    Ok(())
 }
