@@ -4,6 +4,7 @@
 ghost use Rattle.std.specs.Prelude.{◌<◌};
 
 use coder::Coded;
+use std::io;
 
 // What every number of a buffer is before a case: no group, no operator, no kind and no register.
 pub const BEFORE: u16 = 61000;
@@ -48,15 +49,7 @@ fn count(answer: Coded) -> u64 {
 
 // How many numbers are as before.
 fn unchanged(out: &[u16]) -> u64 {
-    let mut n = 0u64;
-    let mut i = 0;
-    while i < out.len() {
-        if out[i] == BEFORE {
-            n += 1;
-        }
-        i += 1;
-    }
-    n
+    out.iter().filter(|x| **x == BEFORE).count() as u64
 }
 
 fn wide(x: u16) -> u64
@@ -95,43 +88,39 @@ fn highest(out: &[u16]) -> u16 {
 // A checksum that tells the order of the numbers.
 fn checksum(out: &[u16]) -> u64 {
     let mut sum = 0u64;
-    let mut i = 0;
-    while i < out.len() {
-        sum = (sum * 31 + wide(out[i])) % 1000000007;
-        i += 1;
+    for x in out {
+        sum = (sum * 31 + wide(*x)) % 1000000007;
     }
     sum
 }
 
 // A label and a number.
-pub fn field(label: &[u8], n: u64) {
-    io::write_all(1, label);
-    io::print_decimal(1, n);
+pub fn field(rt: &impl Print, label: &[u8], n: u64) -> io::Result<()> {
+    rt.write_all(label)?;
+    rt.print(n)
 }
 
 // The line of one case: the number answered, how many instructions, the highest register named, a checksum of the whole buffer, and
 // how many of its numbers are as before.
-pub fn report(label: &[u8], answer: Coded, out: &[u16]) {
-    io::write_all(1, label);
-    field(b": ", number(answer));
-    field(b", instructions ", count(answer));
-    field(b", highest register ", wide(highest(out)));
-    field(b", checksum ", checksum(out));
-    field(b", unchanged ", unchanged(out));
-    io::write_all(1, b"\n");
+pub fn report(rt: &impl Print, label: &[u8], answer: Coded, out: &[u16]) -> io::Result<()> {
+    rt.write_all(label)?;
+    field(rt, b": ", number(answer))?;
+    field(rt, b", instructions ", count(answer))?;
+    field(rt, b", highest register ", wide(highest(out)))?;
+    field(rt, b", checksum ", checksum(out))?;
+    field(rt, b", unchanged ", unchanged(out))?;
+    rt.write_all(b"\n")
 }
 
 // The line of the numbers that were written.
-pub fn print_numbers(label: &[u8], out: &[u16]) {
-    io::write_all(1, label);
-    let mut i = 0;
-    while i < out.len() {
-        if out[i] != BEFORE {
-            field(b" ", wide(out[i]));
+pub fn print_numbers(rt: &impl Print, label: &[u8], out: &[u16]) -> io::Result<()> {
+    rt.write_all(label)?;
+    for x in out {
+        if *x != BEFORE {
+            field(rt, b" ", wide(*x))?;
         }
-        i += 1;
     }
-    io::write_all(1, b"\n");
+    rt.write_all(b"\n")
 }
 
 // The entry at a position of the complete tree of 8,191 nodes: at each turn the part that holds it is halved.
@@ -173,9 +162,7 @@ fn entry(shape: u8, position: usize) -> u16 {
 
 // The entries from 0 on. 8,191 are a tree of any shape; any odd number is a chain to the left.
 pub fn fill(shape: u8, tree: &mut [u16]) {
-    let mut i = 0;
-    while i < tree.len() {
-        tree[i] = entry(shape, i);
-        i += 1;
+    for (i, node) in tree.iter_mut().enumerate() {
+        *node = entry(shape, i);
     }
 }

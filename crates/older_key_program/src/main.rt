@@ -1,6 +1,8 @@
 // The same for the older player.
 #![tactic(auto)]
 
-fn main() {
-    print_key::print_key(printing::Device::Older);
+use std::io;
+
+fn main(rt: HostRuntime) -> io::Result<()> {
+    print_key::print_key(&rt, printing::Device::Older)
 }

@@ -2,6 +2,7 @@
 #![tactic(auto)]
 
 use player::Played;
+use std::io;
 
 // What every byte is before a case.
 pub const BEFORE: u8 = 165;
@@ -16,43 +17,29 @@ fn number(answer: Played) -> u64 {
 
 // How many bytes are as before.
 fn unchanged(lamps: &[u8]) -> u64 {
-    let mut n = 0u64;
-    let mut i = 0;
-    while i < lamps.len() {
-        if lamps[i] == BEFORE {
-            n += 1;
-        }
-        i += 1;
-    }
-    n
+    lamps.iter().filter(|lamp| **lamp == BEFORE).count() as u64
 }
 
 // Prints a byte that has lamps lit.
-fn print_byte(position: usize, value: u8) {
+fn print_byte(rt: &impl Print, position: usize, value: u8) -> io::Result<()> {
     if (value != 0) & (value != BEFORE) {
-        io::write_all(1, b" ");
-        io::print_decimal(1, position as u64);
-        io::write_all(1, b"=");
-        io::print_hex(1, value as u64, 2);
+        print!(rt; " {position}={value:02x}")?;
     }
+    Ok(())
 }
 
-fn print_bytes(lamps: &[u8]) {
-    let mut i = 0;
-    while i < lamps.len() {
-        print_byte(i, lamps[i]);
-        i += 1;
+fn print_bytes(rt: &impl Print, lamps: &[u8]) -> io::Result<()> {
+    for (i, lamp) in lamps.iter().enumerate() {
+        print_byte(rt, i, *lamp)?;
     }
+    Ok(())
 }
 
 // The line of one case: the number answered, how many bytes are as before, and each other byte that is not 0, as position=value in
 // hexadecimal.
-pub fn report(label: &[u8], answer: Played, lamps: &[u8]) {
-    io::write_all(1, label);
-    io::write_all(1, b": ");
-    io::print_decimal(1, number(answer));
-    io::write_all(1, b", unchanged ");
-    io::print_decimal(1, unchanged(lamps));
-    print_bytes(lamps);
-    io::write_all(1, b"\n");
+pub fn report(rt: &impl Print, label: &[u8], answer: Played, lamps: &[u8]) -> io::Result<()> {
+    rt.write_all(label)?;
+    print!(rt; ": {}, unchanged {}", number(answer), unchanged(lamps))?;
+    print_bytes(rt, lamps)?;
+    rt.write_all(b"\n")
 }

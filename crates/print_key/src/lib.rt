@@ -2,24 +2,35 @@
 // or, without an argument, by ours. All the work is `key`'s.
 #![tactic(auto)]
 
+use std::io;
+use std::rt::{Env, Files};
+
 // The key of a sheet by the table that the program was asked for.
-fn answer(sheet: &[u8], out: &mut [u8], device: printing::Device) -> key::KeyAnswer {
-    if os::arg_count() < 2 {
-        return key::key(sheet, out, device);
+fn answer(
+    rt: &(impl Files + Env),
+    sheet: &[u8],
+    out: &mut [u8],
+    device: printing::Device,
+) -> io::Result<key::KeyAnswer> {
+    if !input::has_argument(rt, 1) {
+        return Ok(key::key(sheet, out, device));
     }
     let mut table = [0u8; move_table::ENOUGH_BYTES];
-    let count = input::read_named(1, &mut table);
-    key::key_with(sheet, &table[..count], out, device)
+    let count = input::read_named(rt, 1, &mut table)?;
+    Ok(key::key_with(sheet, &table[..count], out, device))
 }
 
 // Reads and prints.
-pub fn print_key(device: printing::Device) {
+pub fn print_key(
+    rt: &(impl Files + Env + Input + Print),
+    device: printing::Device,
+) -> io::Result<()> {
     let mut sheet = [0u8; sheet::ENOUGH_BYTES];
-    let count = io::read_full(0, &mut sheet);
+    let count = input::read_full(&mut rt.reader(), &mut sheet)?;
     let mut out = [0u8; key::KEY_BYTES];
-    let answer = answer(&sheet[..count], &mut out, device);
+    let answer = answer(rt, &sheet[..count], &mut out, device)?;
     let key::KeyAnswer::Written(count) = answer else {
-        return;
+        return Ok(());
     };
-    output::print(&out, count);
+    output::print(rt, &out, count)
 }

@@ -2,27 +2,29 @@
 // no number, or is larger than 65,534, counts as past the last. All the work is `question_lines`'.
 #![tactic(auto)]
 
+use std::env::FillError;
+use std::io;
+use std::rt::Env;
+
 // Prints the line for an index.
-fn print_one(index: usize) {
+fn print_one(rt: &impl Print, index: usize) -> io::Result<()> {
     let line = question_lines::line_at(index);
     let bytes = line.bytes;
-    output::print(&bytes, line.count);
+    output::print(rt, &bytes, line.count)
 }
 
-fn print_all() {
-    let mut index = 0;
-    while index < questions::QUESTIONS {
-        print_one(index);
-        index += 1;
+fn print_all(rt: &impl Print) -> io::Result<()> {
+    for index in 0..questions::QUESTIONS {
+        print_one(rt, index)?;
     }
+    Ok(())
 }
 
-fn main() {
-    if os::arg_count() < 2 {
-        print_all();
-        return;
+fn main(rt: HostRuntime) -> io::Result<()> {
+    let mut argument = [0u8; 4096];
+    match rt.arg(1, &mut argument) {
+        Ok(length) => print_one(&rt, text::number(&argument[..length]) as usize),
+        Err(FillError::TooLong) => print_one(&rt, text::NO_NUMBER as usize),
+        Err(FillError::NotPresent) => print_all(&rt),
     }
-    let mut argument = io::buffer();
-    let length = os::arg(1, &mut argument);
-    print_one(text::number(&argument[..length]) as usize);
 }

@@ -5,25 +5,27 @@
 mod cases;
 mod vectors;
 
-fn main() {
-    cases::example();
-    cases::ends();
-    cases::past_the_end();
-    cases::order();
-    cases::trees();
-    cases::intersections();
-    cases::intersection_lines();
-    cases::marks();
-    cases::groups();
-    cases::fields();
-    cases::group_limits();
-    cases::lifts();
-    cases::lift_fields();
-    cases::bytes();
-    cases::nodes();
-    cases::one_node_more();
-    cases::no_node_more();
-    cases::different_groups();
-    cases::sizes();
-    vectors::refusals();
+use std::io;
+
+fn main(rt: HostRuntime) -> io::Result<()> {
+    cases::example(&rt)?;
+    cases::ends(&rt)?;
+    cases::past_the_end(&rt)?;
+    cases::order(&rt)?;
+    cases::trees(&rt)?;
+    cases::intersections(&rt)?;
+    cases::intersection_lines(&rt)?;
+    cases::marks(&rt)?;
+    cases::groups(&rt)?;
+    cases::fields(&rt)?;
+    cases::group_limits(&rt)?;
+    cases::lifts(&rt)?;
+    cases::lift_fields(&rt)?;
+    cases::bytes(&rt)?;
+    cases::nodes(&rt)?;
+    cases::one_node_more(&rt)?;
+    cases::no_node_more(&rt)?;
+    cases::different_groups(&rt)?;
+    cases::sizes(&rt)?;
+    vectors::refusals(&rt)
 }

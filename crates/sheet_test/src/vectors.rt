@@ -1,6 +1,8 @@
 // Refused sheets of standard input, each behind a line with its length.
 ghost use Rattle.std.specs.Prelude.{◌≤◌, ◌<◌, length};
 
+use std::io;
+
 #[derive(Clone, Copy)]
 pub struct Range {
     pub from: usize,
@@ -34,28 +36,25 @@ fn sheet_after(input: &[u8], at: usize) -> Range
     }
 }
 
-fn show(bytes: &[u8]) {
+fn show(rt: &impl Print, bytes: &[u8]) -> io::Result<()> {
     let r = sheet::read(bytes);
-    io::write_all(1, b"NO\t");
-    io::print_decimal(1, r.number as u64);
-    io::write_all(1, b"\t");
-    io::print_decimal(1, r.line as u64);
-    io::write_all(1, b"\n");
+    println!(rt; "NO\t{}\t{}", r.number, r.line)
 }
 
-fn show_all(input: &[u8]) {
+fn show_all(rt: &impl Print, input: &[u8]) -> io::Result<()> {
     let mut at = 0;
     while at < input.len() {
         let r = sheet_after(input, at);
         let from = r.from;
         let to = r.to;
-        show(&input[from..to]);
+        show(rt, &input[from..to])?;
         at = to;
     }
+    Ok(())
 }
 
-pub fn refusals() {
-    let mut buffer = io::large_buffer();
-    let n = io::read_full(0, &mut buffer);
-    show_all(&buffer[..n]);
+pub fn refusals(rt: &(impl Input + Print)) -> io::Result<()> {
+    let mut buffer = [0u8; 65536];
+    let n = input::read_full(&mut rt.reader(), &mut buffer)?;
+    show_all(rt, &buffer[..n])
 }
