@@ -1,6 +1,6 @@
 -- Request 7 of 02: which tables loading accepts, and which tables by value loading made.
 use mathlib.Core.Path.{◌≡◌, sym, ap, ap₂, subst, ◌∙◌}
-use mathlib.Core.Bool.{Bool, true, ◌&&◌}
+use mathlib.Core.Bool.{Bool, true, false, ◌&&◌}
 use mathlib.Core.Option.{some}
 use mathlib.Core.List.{List}
 use Prim.Native.Nat.{ℕ, ◌≤◌}
@@ -37,6 +37,7 @@ pub record IsTable (bytes : List ℕ) (f : State → Input → Formula) : Type 0
 
 both : (x y : Bool) → T x → T y → T (x && y)
 both true y t u = u
+both false y t u = elim t [ ]
 
 may_stand : (bytes : List ℕ) (f : State → Input → Formula) → IsTable bytes f → (at : Place) → Stands at (f at.state at.input)
 may_stand bytes f t at =

@@ -1,6 +1,5 @@
 -- `all_zero`: what is left is nothing but zeros exactly when all is.
 use mathlib.Core.Path.{refl, sym, ◌∙◌}
-use Prim.Native.Nat.{◌-◌}
 use native.Mathlib.Omega.{arith}
 use Rattle.move_table.proofs.PackingLaws.{zero_here, zero_end, zero_none}
 use Rattle.move_table.proofs.all_zero.Goals as goal

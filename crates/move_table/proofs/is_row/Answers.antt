@@ -1,6 +1,7 @@
 -- `is_row`: the length, the zeros after the word, and the word.
-use mathlib.Core.Path.{refl, sym, ap, ◌∙◌}
-use mathlib.Core.Bool.{true, false}
+use mathlib.Core.Path.{◌≡◌, refl, sym, ap, ◌∙◌}
+use mathlib.Core.Bool.{true, false, ◌&&◌}
+use Prim.Native.Nat.{ℕ, ◌≤◌}
 use native.Mathlib.Omega.{arith}
 use borrow.Author.Tests.{leb-true}
 use lib.Dec.{leb}
@@ -13,14 +14,20 @@ use Rattle.move_table.proofs.LineLaws.{place_number_lem}
 use Rattle.move_table.proofs.PackingLaws.{row_tested}
 use Rattle.move_table.proofs.is_row.Goals as goal
 
+-- the length is at most that of a row
+at_most : (n : ℕ) → (leb 1 n && leb n 31) ≡ true → n ≤ 31
+at_most n h = leb-true n 31 (second_true (leb 1 n) (leb n 31) h)
+
 pub slice_bounds-all_zero-count : goal.slice_bounds-all_zero-count
-slice_bounds-all_zero-count c = let n = c.args.n in omega (arith, leb-true n 31 (second_true (leb 1 n) (leb n 31) c.if-n.true))
+slice_bounds-all_zero-count c = omega (arith, at_most c.args.n c.if-n.true)
 
 pub slice_bounds-stands-end : goal.slice_bounds-stands-end
-slice_bounds-stands-end c = sym (length-take-le c.args.n c.args.row.now (sub-all-zero c.before.before.before.before))
+slice_bounds-stands-end c = sym (length-take-le c.args.n c.args.row.now (omega (arith, at_most c.args.n c.if-n.true)))
 
 pub stands-requires : goal.stands-requires
-stands-requires c = let e = slice-aggregate-stands c in let h = sub-all-zero c.before.before.before.before in omega arith
+stands-requires c =
+    let h = at_most c.args.n c.if-n.true in
+    record { word_len_bound = omega (arith, length-take-le c.args.n c.args.row.now (omega (arith, h))); place_bound = c.requires.place_bound }
 
 pub returns-then-all_zero : goal.returns-then-all_zero
 returns-then-all_zero c =

@@ -13,6 +13,9 @@ use Rattle.move_table.proofs.line_signs.Goals as goal
 pub slice_bounds-word_length-count : goal.slice_bounds-word_length-count
 slice_bounds-word_length-count c = let h = c.has_front in front_room (place_at c.args.place) c.args.bytes.now (sym h.ensures ∙ c.if-has_front.true)
 
+pub slice_bounds-word_length-start : goal.slice_bounds-word_length-start
+slice_bounds-word_length-start c = front_room (place_at c.args.place) c.args.bytes.now (sym c.has_front.ensures ∙ c.if-has_front.true)
+
 pub returns-then-n-ends_line : goal.returns-then-n-ends_line
 returns-then-n-ends_line c =
     let bytes = c.args.bytes.now in

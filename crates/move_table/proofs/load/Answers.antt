@@ -1,8 +1,6 @@
 -- `load`: the table so far, and the lines that are left.
 use mathlib.Core.Path.{refl, sym, ap, ◌∙◌}
-use Prim.Native.Nat.{◌-◌}
 use native.Mathlib.Omega.{arith}
-use borrow.Author.Tests.{not-true, not-false}
 use lib.ListN.{drop, length-drop, length-set}
 use Rattle.text.proofs.PartsLaws.{rest_all}
 use Rattle.move_table.specs.Packing.{loading_says}
@@ -34,6 +32,15 @@ overflow_add-end c =
     let line = line_counted (place_at loop.place) (drop loop.at bytes) n told c.if-n-eq0.false in
     omega (arith, line.few)
 
+pub slice_bounds-word-end : goal.slice_bounds-word-end
+slice_bounds-word-end c =
+    let loop = c.loop-place in
+    let bytes = c.args.bytes.now in
+    let n = c.line_signs-n.result in
+    let told = c.line_signs-n.ensures ∙ ap (line_signs (place_at loop.place)) (rest_all loop.at bytes) in
+    let line = line_counted (place_at loop.place) (drop loop.at bytes) n told c.if-n-eq0.false in
+    rw (rest_all loop.at bytes) (omega (arith, line.room))
+
 pub stands-requires : goal.stands-requires
 stands-requires c =
     let loop = c.loop-place in
@@ -52,7 +59,7 @@ returns-then-not-stands c =
     c.refusal-then-not-stands.ensures
     ∙ ap loading_says (sym (stops_at_word bytes loop.place loop.at loop.signs loop.lengths loop.invariant.3 (within c.loop-place-test.true tt) n told c.if-n-eq0.false _ (word_part loop.at n bytes) c.stands.result
     (c.stands.ensures (place_at loop.place).state (place_at loop.place).input (sym (place_number_lem loop.place (within c.loop-place-test.true tt))))
-    (not-true c.stands.result c.if-not-stands.true)))
+    c.if-not-stands.true))
 
 pub slice_bounds-put_bytes-end : goal.slice_bounds-put_bytes-end
 slice_bounds-put_bytes-end c = sym c.loop-place.invariant.1
@@ -105,7 +112,7 @@ loop-place-preserved c =
       length-set loop.lengths loop.place n ∙ loop.invariant.2,
       loads_more bytes loop.place loop.at loop.signs loop.lengths loop.invariant.3 (within c.loop-place-test.true tt) n told c.if-n-eq0.false _ (word_part loop.at n bytes) c.stands.result
           (c.stands.ensures (place_at loop.place).state (place_at loop.place).input (sym (place_number_lem loop.place (within c.loop-place-test.true tt))))
-          (not-false c.stands.result c.if-not-stands.false) _ _ _ c.put_bytes-at.ensures refl,
+          c.if-not-stands.false _ _ _ c.put_bytes-at.ensures refl,
     )
 
 pub returns-then-at-bytes : goal.returns-then-at-bytes

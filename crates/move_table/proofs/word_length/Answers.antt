@@ -1,7 +1,7 @@
 -- `word_length`: the answer is how many signs the rest begins with, added to the index.
 use mathlib.Core.Path.{sym, ap, ◌∙◌}
 use mathlib.Core.List.{List}
-use Prim.Native.Nat.{ℕ, ◌-◌}
+use Prim.Native.Nat.{ℕ}
 use native.Mathlib.Omega.{arith}
 use lib.ListN.{length, drop_of_length-le}
 use Rattle.move_table.specs.Loading.{signs_in}
