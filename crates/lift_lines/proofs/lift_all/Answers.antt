@@ -9,7 +9,7 @@ use Rattle.lift_lines.proofs.lift_all.Goals as goal
 pub loop-i-init : goal.loop-i-init
 loop-i-init c =
     let pre = c.requires in
-    let a = c.args in (omega arith, pre.0.1, pre.0.2, refl, refl, λ m K t ls w k. reached_start m a.sheet.now t ls a.start a.count a.tree.now a.nodes a.out.now w k)
+    let a = c.args in (omega arith, pre.in_array.1, pre.in_array.2, refl, refl, λ m K t ls w k. reached_start m a.sheet.now t ls a.start a.count a.tree.now a.nodes a.out.now w k)
 
 pub lift_one-done-requires : goal.lift_one-done-requires
 lift_one-done-requires c =
@@ -17,10 +17,10 @@ lift_one-done-requires c =
     let line_at_lem = c.line_at-here in
     let l = c.loop-i in
     let p = c.requires in
-    let R = l.invariant.5 p.1.1.0 p.1.1.1 p.0.0.0 p.1.0.0.0 p.0.0.1 p.1.0.0.1 in
+    let R = l.invariant.5 p.some_table.0 p.some_table.1 p.in_array.0.0 p.count_in_bounds.0.0 p.in_array.0.1 p.count_in_bounds.0.1 in
     let T = reached_turn R loop-test.true in
     let q = c.lift_numbers-asked.ensures T.line.position T.line.levels (ap (λ (x : LineAt). x.line) line_at_lem.ensures ∙ T.read) in
-    (((R.present, R.holds), l.invariant.1, l.invariant.2), (record { near = omega (arith, q.0, T.range.position_most); few = omega (arith, q.1, T.range.levels_most); room = omega (arith, R.most, p.1.0.1, l.invariant.3) }, p.1.1))
+    (((R.present, R.holds), l.invariant.1, l.invariant.2), (record { near = omega (arith, q.0, T.range.position_most); few = omega (arith, q.1, T.range.levels_most); room = omega (arith, R.most, p.count_in_bounds.1, l.invariant.3) }, p.some_table))
 
 pub loop-i-preserved : goal.loop-i-preserved
 loop-i-preserved c =
@@ -30,14 +30,14 @@ loop-i-preserved c =
     let lift-one = c.lift_one-done in
     let l = c.loop-i in
     let p = c.requires in
-    let R = l.invariant.5 p.1.1.0 p.1.1.1 p.0.0.0 p.1.0.0.0 p.0.0.1 p.1.0.0.1 in
-    let L = lift-one.ensures p.1.1.0 p.1.1.1 R.present R.holds in
+    let R = l.invariant.5 p.some_table.0 p.some_table.1 p.in_array.0.0 p.count_in_bounds.0.0 p.in_array.0.1 p.count_in_bounds.0.1 in
+    let L = lift-one.ensures p.some_table.0 p.some_table.1 R.present R.holds in
     let k = lift-one.auto in (
       omega arith,
-      omega (arith, L.fits, l.invariant.2, k.0),
-      omega (arith, l.invariant.2, k.0),
-      k.1.1.1.1.0 ∙ l.invariant.3,
-      k.0 ∙ l.invariant.4,
+      omega (arith, L.fits, l.invariant.2, k.tree),
+      omega (arith, l.invariant.2, k.tree),
+      k.out ∙ l.invariant.3,
+      k.tree ∙ l.invariant.4,
       λ m K t ls w a. let S = l.invariant.5 m K t ls w a in
           let T = reached_turn S loop-test.true in
           let q = lift-numbers.ensures T.line.position T.line.levels (ap (λ (x : LineAt). x.line) line_at_lem.ensures ∙ T.read) in

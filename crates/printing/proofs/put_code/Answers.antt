@@ -1,4 +1,3 @@
-use Prim.Native.Nat.{◌-◌}
 use native.Mathlib.Omega.{arith}
 use lib.ListN.{drop, length-drop}
 use Rattle.printing.proofs.PrintingLaws.{up_to_start, up_to_next, up_to_end, code_text, code_text_next, code_room, code_text_end}
