@@ -29,7 +29,7 @@ use Rattle.code.specs.Acts.{Acts}
 use Rattle.code.specs.Effects.{Every, Names, Loads, stretch, ClosedRun, read_first, newer_effect}
 use Rattle.code.specs.Runs.{run_first, run_count}
 use Rattle.code.proofs.NeedLaws.{first, second, in_order_node, in_order_by}
-use Rattle.code.proofs.CodeLaws.{every_append, Runs, part_by, length_part, loads, cond_by}
+use Rattle.code.proofs.CodeLaws.{every_append, Runs, part_by, length_part, cond_by}
 use Rattle.code.proofs.Theorems.{code_answers, thirteen_suffice, loads_all, root, closed_run, run_waiting}
 use Rattle.code.proofs.RunLaws.{CodePlace, code_place, child_by}
 
