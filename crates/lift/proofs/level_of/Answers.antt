@@ -1,6 +1,5 @@
 -- `level_of` meets its contract: the level so far and what the rest of the list adds make up the part's level.
 use mathlib.Core.Path.{◌≡◌, ◌∙◌}
-use Prim.Native.Nat.{◌-◌}
 use native.Mathlib.Omega.{arith}
 use lib.ListN.{drop}
 use Rattle.lift.proofs.LevelLaws.{rises, rises_up, rises_operator, rises_leaf, rises_end, part_level}
