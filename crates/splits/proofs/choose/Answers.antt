@@ -1,6 +1,4 @@
-use Prim.Native.Nat.{◌-◌}
 use native.Mathlib.Omega.{arith}
-use Rattle.splits.specs.InnerSplits as inner
 use Rattle.splits.proofs.SplitLaws.{below_most, least_start, least_new, least_old, choose_is}
 use Rattle.splits.proofs.choose.Goals as goal
 

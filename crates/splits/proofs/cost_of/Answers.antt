@@ -3,13 +3,13 @@ use Rattle.splits.proofs.SplitLaws.{variable_most, plain_is, first_is_lem, secon
 use Rattle.splits.proofs.cost_of.Goals as goal
 
 pub leaves_after-requires : goal.leaves_after-requires
-leaves_after-requires c = ((c.requires, rw c.candidate_variable-v.ensures (variable_most _ _)), plain_is)
+leaves_after-requires c = record { sized = (c.requires, rw c.candidate_variable-v.ensures (variable_most _ _)); fact = plain_is }
 
 pub leaves_after-requires-in-First : goal.leaves_after-requires-in-First
-leaves_after-requires-in-First c = ((c.requires, rw c.candidate_variable-v.ensures (variable_most _ _)), first_is_lem)
+leaves_after-requires-in-First c = record { sized = (c.requires, rw c.candidate_variable-v.ensures (variable_most _ _)); fact = first_is_lem }
 
 pub leaves_after-requires-in-Second : goal.leaves_after-requires-in-Second
-leaves_after-requires-in-Second c = ((c.requires, rw c.candidate_variable-v.ensures (variable_most _ _)), second_is)
+leaves_after-requires-in-Second c = record { sized = (c.requires, rw c.candidate_variable-v.ensures (variable_most _ _)); fact = second_is }
 
 pub returns-in-No : goal.returns-in-No
 returns-in-No c = cost_case _ _ _ _ c.candidate_use-plan.ensures c.in-No.is c.form_of-form.ensures c.candidate_variable-v.ensures
