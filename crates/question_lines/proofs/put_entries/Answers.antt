@@ -1,6 +1,5 @@
 -- `put_entries`: so far the fields of the first i entries have been written.
 use mathlib.Core.Path.{sym}
-use Prim.Native.Nat.{◌-◌}
 use native.Mathlib.Omega.{arith}
 use lib.Seq.{take_all}
 use Rattle.tree.proofs.WritingLaws.{wrote_nothing, wrote_then, wrote_as}
