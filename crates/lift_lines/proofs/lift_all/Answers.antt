@@ -1,7 +1,6 @@
 use Rattle.sheet.specs.declared.LineAt.{LineAt}
 use Rattle.lift_lines.proofs.LiftOneLaws.{front_size}
 use mathlib.Core.Path.{refl, ap, ◌∙◌}
-use Prim.Native.Nat.{◌-◌}
 use native.Mathlib.Omega.{arith}
 use Rattle.lift_lines.proofs.LiftAllLaws.{reached_start, reached_turn, reached_next, reached_end}
 use Rattle.lift_lines.proofs.lift_all.Goals as goal
@@ -20,7 +19,10 @@ lift_one-done-requires c =
     let R = l.invariant.5 p.some_table.0 p.some_table.1 p.in_array.0.0 p.count_in_bounds.0.0 p.in_array.0.1 p.count_in_bounds.0.1 in
     let T = reached_turn R loop-test.true in
     let q = c.lift_numbers-asked.ensures T.line.position T.line.levels (ap (λ (x : LineAt). x.line) line_at_lem.ensures ∙ T.read) in
-    (((R.present, R.holds), l.invariant.1, l.invariant.2), (record { near = omega (arith, q.0, T.range.position_most); few = omega (arith, q.1, T.range.levels_most); room = omega (arith, R.most, p.count_in_bounds.1, l.invariant.3) }, p.some_table))
+    record {
+      in_array = ((R.present, R.holds), l.invariant.1, l.invariant.2);
+      lift_room = (record { near = omega (arith, q.0, T.range.position_most); few = omega (arith, q.1, T.range.levels_most); room = omega (arith, R.most, p.count_in_bounds.1, l.invariant.3) }, p.some_table);
+    }
 
 pub loop-i-preserved : goal.loop-i-preserved
 loop-i-preserved c =
