@@ -8,7 +8,6 @@ use native.Mathlib.Omega.{arith}
 use borrow.Author.Tests.{lt-ltb}
 use lib.ListN.{length, take, drop, length-append}
 use Rattle.tree.specs.Tree.{Tree, postfix, size, most_nodes, is_in}
-use Rattle.tree.specs.Context.{position}
 use Rattle.tree.specs.Parse.{tree_of, locate}
 use Rattle.tree.specs.Writing.{over}
 use Rattle.tree.specs.InnerWriting.{Wrote}

@@ -24,7 +24,11 @@ lift_all-done-requires c =
     let p = c.requires in
     let I = is_read p.0.1 in
     let s = copy.ensures.same in
-    (((I.has.tree, read_copied I p.1 copy.ensures), omega (arith, s, I.counted, I.most, p.1), omega (arith, s, p.1)), (((p.0.0.lifts, I.asks), omega (arith, I.few, p.2)), p.3))
+    record {
+      in_array = ((I.has.tree, read_copied I p.1 copy.ensures), omega (arith, s, I.counted, I.most, p.1), omega (arith, s, p.1));
+      count_in_bounds = ((p.0.0.lifts, I.asks), omega (arith, I.few, p.2));
+      some_table = p.3;
+    }
 
 pub slice_bounds-marks-end : goal.slice_bounds-marks-end
 slice_bounds-marks-end c = (is_read c.requires.0.1).marks_long
@@ -39,7 +43,7 @@ put_held-requires c =
     let p = c.requires in
     let I = is_read p.0.1 in
     let L = lift-all.ensures p.3.0 p.3.1 I.has.tree p.0.0.lifts (read_copied I p.1 copy.ensures) I.asks in
-    let s = lift-all.auto.1.1.1.0 in
+    let s = lift-all.auto.tree in
     ((_, L.holds, read_marks I (table_right p.3.1)), omega (arith, L.fits, s, copy.ensures.same, p.1), omega (arith, s, copy.ensures.same, p.1), omega (arith, read_most I L, L.wrote.same, p.2))
 
 pub returns : goal.returns

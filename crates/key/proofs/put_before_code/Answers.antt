@@ -7,14 +7,14 @@ use Rattle.key.proofs.put_before_code.Goals as goal
 pub put_line-next-requires : goal.put_line-next-requires
 put_line-next-requires c =
     let read = c.read-read in
-    omega (arith, no_most read.result.number read.result.line (omega (arith, read.type-inv)) (omega (arith, read.type-inv)), c.requires.1)
+    omega (arith, no_most read.result.number read.result.line (omega (arith, read.type_inv)) (omega (arith, read.type_inv)), c.requires.1)
 
 pub returns-then-number-ne0 : goal.returns-then-number-ne0
 returns-then-number-ne0 c = λ m K.
     let args = c.args in
     let r = c.read-read in
     let w = c.put_line-next.ensures in
-    let short = no_most r.result.number r.result.line (omega (arith, r.type-inv)) (omega (arith, r.type-inv)) in
+    let short = no_most r.result.number r.result.line (omega (arith, r.type_inv)) (omega (arith, r.type_inv)) in
     record {
       inside = omega arith;
       room = omega (arith, w.ends, short);

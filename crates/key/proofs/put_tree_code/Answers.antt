@@ -13,14 +13,14 @@ pub returns-in_default : goal.returns-in_default
 returns-in_default c =
     let args = c.args in
     let encode = c.encode_for-coded in
-    wrote_as (wrote_nothing _ _) (sym (not_encoded args.device args.tree.now (replicate 32768 0) encode.result encode.new.1.0 (zeros_length 32768) encode.ensures c.in_default.field-0 c.in_default.is))
+    wrote_as (wrote_nothing _ _) (sym (not_encoded args.device args.tree.now (replicate 32768 0) encode.result encode.new.out (zeros_length 32768) encode.ensures c.in_default.field-0 c.in_default.is))
 
 pub overflow_mul-code : goal.overflow_mul-code
 overflow_mul-code c =
     let pre = c.requires in
     let args = c.args in
     let encode = c.encode_for-coded in
-    let e = encoded args.device args.tree.now (replicate 32768 0) encode.result encode.new.1.0 (zeros_length 32768) encode.ensures c.in-Done.count c.in-Done.is in
+    let e = encoded args.device args.tree.now (replicate 32768 0) encode.result encode.new.out (zeros_length 32768) encode.ensures c.in-Done.count c.in-Done.is in
     omega (arith, e.small)
 
 pub slice_bounds-code-end : goal.slice_bounds-code-end
@@ -28,27 +28,25 @@ slice_bounds-code-end c =
     let pre = c.requires in
     let args = c.args in
     let encode = c.encode_for-coded in
-    (encoded args.device args.tree.now (replicate 32768 0) encode.result encode.new.1.0 (zeros_length 32768) encode.ensures c.in-Done.count c.in-Done.is).long
+    (encoded args.device args.tree.now (replicate 32768 0) encode.result encode.new.out (zeros_length 32768) encode.ensures c.in-Done.count c.in-Done.is).long
 
 pub slice_bounds-put_code-end : goal.slice_bounds-put_code-end
 slice_bounds-put_code-end c =
     let pre = c.requires in
     let args = c.args in
     let encode = c.encode_for-coded in
-    sym (length-take-le (4 * c.in-Done.count) encode.new.1.0 (encoded args.device args.tree.now (replicate 32768 0) encode.result encode.new.1.0 (zeros_length 32768) encode.ensures c.in-Done.count c.in-Done.is).long)
+    sym (length-take-le (4 * c.in-Done.count) encode.new.out (encoded args.device args.tree.now (replicate 32768 0) encode.result encode.new.out (zeros_length 32768) encode.ensures c.in-Done.count c.in-Done.is).long)
 
 pub put_code-requires : goal.put_code-requires
 put_code-requires c =
     let pre = c.requires in
     let args = c.args in
     let encode = c.encode_for-coded in
-    let coded = c.coded-1 in
-    let e = encoded args.device args.tree.now (replicate 32768 0) encode.result encode.new.1.0 (zeros_length 32768) encode.ensures coded.given.0.0 coded.given.1 in
+    let e = encoded args.device args.tree.now (replicate 32768 0) encode.result encode.new.out (zeros_length 32768) encode.ensures c.in-Done.count c.in-Done.is in
     omega (arith, e.room, pre)
 
 pub returns : goal.returns
 returns c =
     let args = c.args in
     let encode = c.encode_for-coded in
-    let coded = c.coded-1 in
-    wrote_as c.put_code.ensures (encoded args.device args.tree.now (replicate 32768 0) encode.result encode.new.1.0 (zeros_length 32768) encode.ensures coded.given.0.0 coded.given.1).text
+    wrote_as c.put_code.ensures (encoded args.device args.tree.now (replicate 32768 0) encode.result encode.new.out (zeros_length 32768) encode.ensures c.in-Done.count c.in-Done.is).text
