@@ -11,7 +11,7 @@ use lib.Dec.{ltb}
 use lib.ListN.{length, get_or}
 use Rattle.common.specs.Answer.{done, refused_with}
 use Rattle.tree.specs.Tree.{Operator, Tree, leaf, node, size}
-use Rattle.tree.specs.Context.{right, plug, before}
+use Rattle.tree.specs.Context.{plug, before}
 use Rattle.tree.specs.Parse.{tree_of, is_some, locate}
 use Rattle.tree.specs.Writing.{over}
 use Rattle.tree.proofs.TreeLaws.{size_positive, postfix_length}

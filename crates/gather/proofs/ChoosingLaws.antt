@@ -32,7 +32,7 @@ use Rattle.columns.specs.declared.Choice.TheVariants.{Never, Constant, Columns}
 use Rattle.gather.specs.Gathering.{Gathered}
 use Rattle.gather.proofs.Criterion.{mixed, FiveFillings}
 use Rattle.gather.specs.Inner.{MarkedParts}
-use Rattle.gather.proofs.GatheringLaws.{unmarked, gathered_whole}
+use Rattle.gather.proofs.GatheringLaws.{gathered_whole}
 use Rattle.gather.proofs.HeldLaws.{GatheredSome, Some, join_right, Others, plain_over, held_gathered}
 use Rattle.gather.proofs.JoiningLaws.{plain_buildable, plain_selects, plain_some_on, falls_held, rises_held, held_buildable, held_selects}
 

@@ -15,7 +15,6 @@ use lib.Seq.{sets, take_all, take_at, drop_at, length-take-le}
 use Rattle.tree.specs.Tree.{Tree, sign, union, plus, minus, is_group, postfix, size, most_nodes, Over, leaves, is_in, collect, groups, most_groups}
 use Rattle.tree.specs.InnerGroups.{Distinct, leaves_in, Collected}
 use Rattle.tree.specs.Parse.{tree_of}
-use Rattle.tree.specs.Writing.{over}
 use Rattle.tree.specs.InnerWriting.{Wrote}
 use Rattle.tree.proofs.TreeLaws.{postfix_length, size_positive, equivalent_refl, over_implies, or_cases, in_right, group_most}
 use Rattle.tree.proofs.GroupLaws.{is_in_here, in_later, in_collect, distinct_collect, distinct_split, collect_begins, collect_distinct, distinct_most, leaves_groups, groups_leaves, over_collect, leaves_postfix}

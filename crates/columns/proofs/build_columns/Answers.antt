@@ -7,32 +7,37 @@ use Rattle.columns.proofs.build_columns.Goals as goal
 pub bounds-t-start : goal.bounds-t-start
 bounds-t-start c =
     let p = c.requires in
-    omega (arith, column_inside _ p.0 p.1, width_positive p.0)
+    omega (arith, column_inside _ p.room p.columns_ready, width_positive p.room)
 
 pub rows_of-column-requires : goal.rows_of-column-requires
 rows_of-column-requires c =
     let p = c.requires in
-    (omega arith, omega (arith, column_inside _ p.0 p.1))
+    (omega arith, omega (arith, column_inside _ p.room p.columns_ready))
 
 pub build_by-nodes-requires : goal.build_by-nodes-requires
 build_by-nodes-requires c =
     let p = c.requires in
-    (p.0.width, (column_ready _ p.0 p.1 c.rows_of-column.ensures, ((none, refl, tt), marks_small _ p.0 p.1)))
+    record {
+      count_value = p.room.width;
+      ready = column_ready _ p.room p.columns_ready c.rows_of-column.ensures;
+      holding = (none, refl, tt);
+      holder_in_bounds = marks_small _ p.room p.columns_ready;
+    }
 
 pub with_holder-variables-requires : goal.with_holder-variables-requires
 with_holder-variables-requires c =
     let p = c.requires in
-    others_few _ p.0 p.1
+    others_few _ p.room p.columns_ready
 
 pub held_rows-rows-requires : goal.held_rows-rows-requires
 held_rows-rows-requires c =
     let p = c.requires in
-    (row_below _ p.0 p.1, p.0.most, columns_few _ p.0 p.1)
+    (row_below _ p.room p.columns_ready, p.room.most, columns_few _ p.room p.columns_ready)
 
 pub overflow_mul-columns : goal.overflow_mul-columns
 overflow_mul-columns c =
     let p = c.requires in
-    omega (arith, columns_few _ p.0 p.1)
+    omega (arith, columns_few _ p.room p.columns_ready)
 
 pub slice_bounds-variables-end : goal.slice_bounds-variables-end
 slice_bounds-variables-end c =
@@ -49,13 +54,13 @@ pub slice_bounds-holder-end : goal.slice_bounds-holder-end
 slice_bounds-holder-end c =
     let p = c.requires in
     let rows_of = c.rows_of-column in
-    holder_inside _ p.0 p.1 rows_of.ensures c.build_by-nodes.ensures refl
+    holder_inside _ p.room p.columns_ready rows_of.ensures c.build_by-nodes.ensures refl
 
 pub slice_bounds-build_by-end-4 : goal.slice_bounds-build_by-end-4
 slice_bounds-build_by-end-4 c =
     let p = c.requires in
     let rows_of = c.rows_of-column in
-    holder_length _ p.0 p.1 rows_of.ensures c.build_by-nodes.ensures refl
+    holder_length _ p.room p.columns_ready rows_of.ensures c.build_by-nodes.ensures refl
 
 pub build_by-requires : goal.build_by-requires
 build_by-requires c =
@@ -64,7 +69,12 @@ build_by-requires c =
     let f = c.build_by-nodes.ensures in
     let v = c.with_holder-variables.ensures in
     let g = c.held_rows-rows.ensures in
-    (held_count _ p.0 p.1 h f refl g v, (held_ready _ p.0 p.1 h f refl g v, (holding _ p.0 p.1 h f refl, held_room _ p.0 p.1 h f refl g v)))
+    record {
+      count_value = held_count _ p.room p.columns_ready h f refl g v;
+      ready = held_ready _ p.room p.columns_ready h f refl g v;
+      holding = holding _ p.room p.columns_ready h f refl;
+      holder_in_bounds = held_room _ p.room p.columns_ready h f refl g v;
+    }
 
 pub returns : goal.returns
 returns c =
@@ -73,4 +83,4 @@ returns c =
     let f = c.build_by-nodes.ensures in
     let v = c.with_holder-variables.ensures in
     let g = c.held_rows-rows.ensures in
-    columns_wrote _ p.0 p.1 h f refl g v c.build_by.ensures
+    columns_wrote _ p.room p.columns_ready h f refl g v c.build_by.ensures

@@ -6,26 +6,31 @@ use Rattle.columns.proofs.build_constant.Goals as goal
 
 pub rows_of-rows-requires : goal.rows_of-rows-requires
 rows_of-rows-requires c =
-    let room = c.requires.0 in
+    let room = c.requires.room in
     (width_positive room, omega (arith, room.most))
 
 pub build_by-a-requires : goal.build_by-a-requires
 build_by-a-requires c =
     let p = c.requires in
-    (p.0.count, (first_ready _ p.0 p.1 c.rows_of-rows.ensures, ((none, refl, tt), omega (arith, p.0.space))))
+    record {
+      count_value = p.room.count;
+      ready = first_ready _ p.room p.constant_ready c.rows_of-rows.ensures;
+      holding = (none, refl, tt);
+      holder_in_bounds = omega (arith, p.room.space);
+    }
 
 pub put3-h-requires : goal.put3-h-requires
 put3-h-requires c =
     let p = c.requires in
     let rows_of = c.rows_of-rows in
-    omega (arith, first_room _ p.0 p.1 rows_of.ensures c.build_by-a.ensures)
+    omega (arith, first_room _ p.room p.constant_ready rows_of.ensures c.build_by-a.ensures)
 
 pub operate-requires : goal.operate-requires
 operate-requires c =
     let p = c.requires in
     let rows_of = c.rows_of-rows in
     let build-by = c.build_by-a in
-    omega (arith, first_room _ p.0 p.1 rows_of.ensures build-by.ensures, c.put3-h.ensures.ends)
+    omega (arith, first_room _ p.room p.constant_ready rows_of.ensures build-by.ensures, c.put3-h.ensures.ends)
 
 pub returns : goal.returns
 returns c =
@@ -33,4 +38,4 @@ returns c =
     let rows_of = c.rows_of-rows in
     let build-by = c.build_by-a in
     let put3 = c.put3-h in
-    constant_wrote _ p.0 p.1 rows_of.ensures build-by.ensures put3.ensures c.operate.ensures
+    constant_wrote _ p.room p.constant_ready rows_of.ensures build-by.ensures put3.ensures c.operate.ensures

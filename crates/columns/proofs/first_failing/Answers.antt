@@ -1,5 +1,4 @@
 use mathlib.Core.Path.{sym, ◌∙◌}
-use Prim.Native.Nat.{◌-◌}
 use native.Mathlib.Omega.{arith}
 use Rattle.free_tables.proofs.SearchLaws.{failing_turn, failing_stop, failing_end, failing_start}
 use Rattle.columns.proofs.ColumnLaws.{agrees_inside}

@@ -1,6 +1,5 @@
 use mathlib.Core.Path.{refl, ap}
 use mathlib.Core.Bool.{not}
-use Prim.Native.Nat.{◌-◌}
 use native.Mathlib.Omega.{arith}
 use Rattle.table.specs.InnerTable.{rows_of}
 use Rattle.columns.proofs.ColumnLaws.{exact_start, exact_turn, exact_all}

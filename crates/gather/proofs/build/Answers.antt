@@ -9,20 +9,20 @@ pub build_constant-requires : goal.build_constant-requires
 build_constant-requires c =
     let args = c.args in
     let pre = c.requires in
-    (pre.0, subst (ReadyFor (rows_of args.t.now) args.marks.now args.others.now) c.in-Constant.is pre.1)
+    record { room = pre.room; constant_ready = subst (ReadyFor (rows_of args.t.now) args.marks.now args.others.now) c.in-Constant.is pre.ready_for }
 
 pub overflow_add-low : goal.overflow_add-low
 overflow_add-low c =
     let args = c.args in
     let pre = c.requires in
-    let ready = subst (ReadyFor (rows_of args.t.now) args.marks.now args.others.now) c.in-Columns.is pre.1 in
-    omega (arith, ready.row, pre.0.width)
+    let ready = subst (ReadyFor (rows_of args.t.now) args.marks.now args.others.now) c.in-Columns.is pre.ready_for in
+    omega (arith, ready.row, pre.room.width)
 
 pub build_columns-requires : goal.build_columns-requires
 build_columns-requires c =
     let args = c.args in
     let pre = c.requires in
-    (pre.0, subst (ReadyFor (rows_of args.t.now) args.marks.now args.others.now) c.in-Columns.is pre.1)
+    record { room = pre.room; columns_ready = subst (ReadyFor (rows_of args.t.now) args.marks.now args.others.now) c.in-Columns.is pre.ready_for }
 
 pub returns-in-Never : goal.returns-in-Never
 returns-in-Never c = rw c.in-Never.is (wrote_nothing _ _)

@@ -6,14 +6,14 @@ pub returns-then-number-eq0 : goal.returns-then-number-eq0
 returns-then-number-eq0 c =
     let fault-of = c.fault_of-number in
     let if1 = c.if-number-eq0 in
-    let done = c.gather_tree.ensures in (
-      record { faulty = λ n. absurd (n (sym fault-of.ensures ∙ if1.true)); gathers = λ e t q. done.0 t q },
-      record { by = λ e t q. done.1 t q },
-    )
+    let done = c.gather_tree.ensures in record {
+      gathers = record { faulty = λ n. absurd (n (sym fault-of.ensures ∙ if1.true)); gathers = λ e t q. done.gathers_tree t q };
+      by = record { by = λ e t q. done.by t q };
+    }
 
 pub returns : goal.returns
 returns c =
-    let fault = c.fault_of-number.ensures in (
-      record { faulty = λ n. (ap refused_with fault, refl); gathers = λ e. absurd (c.if-number-eq0.false (fault ∙ e)) },
-      record { by = λ e. absurd (c.if-number-eq0.false (fault ∙ e)) },
-    )
+    let fault = c.fault_of-number.ensures in record {
+      gathers = record { faulty = λ n. (ap refused_with fault, refl); gathers = λ e. absurd (c.if-number-eq0.false (fault ∙ e)) };
+      by = record { by = λ e. absurd (c.if-number-eq0.false (fault ∙ e)) };
+    }

@@ -17,13 +17,13 @@ pub rearrange-requires : goal.rearrange-requires
 rearrange-requires c =
     let pre = c.requires in
     let holding = c.holding-status in
-    (pre, λ t p e g. status_not _ (sym (holding.ensures t e) ∙ c.in-Free.is) not_free g)
+    record { out_value = pre; fact = λ t p e g. status_not _ (sym (holding.ensures t e) ∙ c.in-Free.is) not_free g }
 
 pub rearrange-requires-in-Mixed : goal.rearrange-requires-in-Mixed
 rearrange-requires-in-Mixed c =
     let pre = c.requires in
     let holding = c.holding-status in
-    (pre, λ t p e g. status_not _ (sym (holding.ensures t e) ∙ c.in-Mixed.is) not_mixed g)
+    record { out_value = pre; fact = λ t p e g. status_not _ (sym (holding.ensures t e) ∙ c.in-Mixed.is) not_mixed g }
 
 pub copy-nodes-requires : goal.copy-nodes-requires
 copy-nodes-requires c =
@@ -38,37 +38,33 @@ copy-nodes-requires-in-Held c =
 pub returns-in-Free : goal.returns-in-Free
 returns-in-Free c =
     let holding = c.holding-status in
-    let told = c.enum_told-1 in
     let done = c.rearrange.ensures in
-    (done.0, λ t q. returned_as t Free (sym (holding.ensures t (the_same q)) ∙ told.given.1) (done.1 t q))
+    record { gathers_tree = done.gathers_tree; by = λ t q. returned_as t Free (sym (holding.ensures t (the_same q)) ∙ c.in-Free.is) (done.by t q) }
 
 pub returns-in-Mixed : goal.returns-in-Mixed
 returns-in-Mixed c =
     let holding = c.holding-status in
-    let told = c.enum_told-in-Mixed-1 in
     let done = c.rearrange-in-Mixed.ensures in
-    (done.0, λ t q. returned_as t Mixed (sym (holding.ensures t (the_same q)) ∙ told.given.1) (done.1 t q))
+    record { gathers_tree = done.gathers_tree; by = λ t q. returned_as t Mixed (sym (holding.ensures t (the_same q)) ∙ c.in-Mixed.is) (done.by t q) }
 
 pub returns-in-All : goal.returns-in-All
 unfolding GathersTree
 returns-in-All c =
     let pre = c.requires in
     let holding = c.holding-status in
-    let status = c.status-1 in
     let copied-list = c.copy-nodes.ensures in
-    let f = faultless _ _ _ pre in (
-      λ t q. copied t q f.space copied-list (inr (sym (holding.ensures t (the_same q)) ∙ status.given.1)),
-      λ t q. copied_returned t q f.space copied-list (inr (sym (holding.ensures t (the_same q)) ∙ status.given.1)),
-    )
+    let f = faultless _ _ _ pre in record {
+      gathers_tree = λ t q. copied t q f.space copied-list (inr (sym (holding.ensures t (the_same q)) ∙ c.in-All.is));
+      by = λ t q. copied_returned t q f.space copied-list (inr (sym (holding.ensures t (the_same q)) ∙ c.in-All.is));
+    }
 
 pub returns-in-Held : goal.returns-in-Held
 unfolding GathersTree
 returns-in-Held c =
     let pre = c.requires in
     let holding = c.holding-status in
-    let status2 = c.status-in-Held-1 in
     let copied-list = c.copy-nodes-in-Held.ensures in
-    let f = faultless _ _ _ pre in (
-      λ t q. copied t q f.space copied-list (inl (sym (holding.ensures t (the_same q)) ∙ status2.given.1)),
-      λ t q. copied_returned t q f.space copied-list (inl (sym (holding.ensures t (the_same q)) ∙ status2.given.1)),
-    )
+    let f = faultless _ _ _ pre in record {
+      gathers_tree = λ t q. copied t q f.space copied-list (inl (sym (holding.ensures t (the_same q)) ∙ c.in-Held.is));
+      by = λ t q. copied_returned t q f.space copied-list (inl (sym (holding.ensures t (the_same q)) ∙ c.in-Held.is));
+    }

@@ -1,7 +1,6 @@
 -- The loop keeps that every node below i is noted. An operator's operands are the nodes noted last, which `operands` finds in
 -- reach.
 use mathlib.Core.Path.{◌≡◌}
-use Prim.Native.Nat.{◌-◌}
 use native.Mathlib.Omega.{arith}
 use lib.ListN.{length, length-set}
 use Rattle.tree.proofs.ParseLaws.{tree_few}
