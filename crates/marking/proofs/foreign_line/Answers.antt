@@ -1,6 +1,5 @@
 -- `foreign_line`: what is left of the entries has the first foreign one of all.
 use mathlib.Core.Path.{refl, sym, ◌∙◌}
-use Prim.Native.Nat.{◌-◌}
 use native.Mathlib.Omega.{arith}
 use Rattle.marking.proofs.ForeignLaws.{foreign_here, foreign_on, foreign_end}
 use Rattle.marking.proofs.foreign_line.Goals as goal

@@ -1,7 +1,6 @@
 -- `same_rows`: the tables are the same where the rows that are left are.
 use mathlib.Core.Path.{refl, ap}
 use mathlib.Core.Bool.{false, false≢true}
-use Prim.Native.Nat.{◌-◌}
 use native.Mathlib.Omega.{arith}
 use lib.ListN.{get_or}
 use Rattle.marking.proofs.RowLaws.{value_differs, value_same, rows_on, rows_end}
