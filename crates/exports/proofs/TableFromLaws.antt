@@ -6,7 +6,7 @@ use Prim.Native.Nat.{ℕ}
 use native.Mathlib.Omega.{arith}
 use borrow.Author.Tests.{eqb-true}
 use lib.Dec.{eqb}
-use lib.ListN.{length, drop, replicate, length-replicate, drop_of_length-le}
+use lib.ListN.{length, replicate, length-replicate, drop_of_length-le}
 use Rattle.tree.specs.InnerWriting.{Wrote}
 use Rattle.tree.proofs.WritingLaws.{wrote_over}
 use Rattle.move_table.specs.Packing.{empty}

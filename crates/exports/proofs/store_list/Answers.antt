@@ -1,6 +1,5 @@
 -- `store_list`: so far the first i numbers have been stored.
 use mathlib.Core.Path.{◌∙◌}
-use Prim.Native.Nat.{◌-◌}
 use native.Mathlib.Omega.{arith}
 use lib.Seq.{take_all}
 use Rattle.tree.proofs.WritingLaws.{wrote_nothing, wrote_next}
