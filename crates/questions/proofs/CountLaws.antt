@@ -1,7 +1,7 @@
 -- The code's tables have the definitions' values, which is a computation; and where an index stands.
-use mathlib.Core.Path.{◌≡◌}
+use mathlib.Core.Path.{◌≡◌, sym}
 use mathlib.Core.List.{List, ◌∷◌}
-use Prim.Native.Nat.{ℕ, ◌+◌, ◌-◌, ◌<◌}
+use Prim.Native.Nat.{ℕ, ◌+◌, ◌-◌, ◌<◌, ◌≤◌}
 use native.Mathlib.Omega.{arith}
 use borrow.Author.Tests.{lt-ltb, le-ltb}
 use lib.ListN.{get_or}
@@ -29,3 +29,49 @@ module _ {c : ℕ → ℕ} {x : ℕ} {xs : List ℕ} where
   later {k} j e L =
       let z : j ≡ k - c x = omega arith in
       record { part = rw (le-ltb k (c x) (omega arith), ← z) L.part; index = rw (le-ltb k (c x) (omega arith), ← z) L.index }
+
+-- the length of the question with index k, and its index among those: the numbers of questions before each length, added up
+located_1 : (k : ℕ) → k < 3 → Located lengths of_length k 1 k
+unfolding count
+located_1 k h = later k (omega arith) (first (omega arith))
+
+located_3 : (k : ℕ) → 3 ≤ k → k < 21 → Located lengths of_length k 3 (k - 3)
+unfolding count
+located_3 k g h = later k (omega arith) (later (k - 3) (omega arith) (later (k - 3) (omega arith) (first (omega arith))))
+
+located_5 : (k : ℕ) → 21 ≤ k → k < 237 → Located lengths of_length k 5 (k - 21)
+unfolding count
+located_5 k g h =
+    later k (omega arith) (later (k - 3) (omega arith) (later (k - 3) (omega arith) (later (k - 21) (omega arith) (later (k - 21) (omega arith) (first (omega arith))))))
+
+located_7 : (k : ℕ) → 237 ≤ k → k < 3477 → Located lengths of_length k 7 (k - 237)
+unfolding count
+located_7 k g h =
+    later k (omega arith) (later (k - 3) (omega arith) (later (k - 3) (omega arith) (later (k - 21) (omega arith) (later (k - 21) (omega arith)
+    (later (k - 237) (omega arith) (later (k - 237) (omega arith) (first (omega arith))))))))
+
+pub part_1 : (k : ℕ) → k < 3 → part_at lengths of_length k ≡ 1
+part_1 k h = sym (located_1 k h).part
+
+pub part_3 : (k : ℕ) → 3 ≤ k → k < 21 → part_at lengths of_length k ≡ 3
+part_3 k g h = sym (located_3 k g h).part
+
+pub part_5 : (k : ℕ) → 21 ≤ k → k < 237 → part_at lengths of_length k ≡ 5
+part_5 k g h = sym (located_5 k g h).part
+
+pub part_7 : (k : ℕ) → 237 ≤ k → k < 3477 → part_at lengths of_length k ≡ 7
+part_7 k g h = sym (located_7 k g h).part
+
+pub index_1 : (k : ℕ) → k < 3 → index_at lengths of_length k ≡ k
+index_1 k h = sym (located_1 k h).index
+
+pub index_3 : (k : ℕ) → 3 ≤ k → k < 21 → index_at lengths of_length k ≡ k - 3
+index_3 k g h = sym (located_3 k g h).index
+
+pub index_5 : (k : ℕ) → 21 ≤ k → k < 237 → index_at lengths of_length k ≡ k - 21
+index_5 k g h = sym (located_5 k g h).index
+
+pub index_7 : (k : ℕ) → 237 ≤ k → k < 3477 → index_at lengths of_length k ≡ k - 237
+index_7 k g h = sym (located_7 k g h).index
+
+pub ruleset located = (part_1, part_3, part_5, part_7, index_1, index_3, index_5, index_7)

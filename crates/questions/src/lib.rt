@@ -95,6 +95,7 @@ fn count_behind(left: usize, waiting: usize) -> Behind
 }
 
 // Among the questions of which length the one with an index is, and with which index there.
+#[tactic(auto, using(crate::proofs::CountLaws::located))]
 fn length_at(index: usize) -> Place
     requires { index < 3477 }
     ensures { Located lengths of_length index result.part result.index × (result.part ≤ 7) }
