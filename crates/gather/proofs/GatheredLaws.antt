@@ -67,13 +67,13 @@ pub gathered_plain : (t : Tree) (marks : List ℕ) (u : Tree) → gathered_by t 
 unfolding gathered_by
 gathered_plain t marks u e w = subst PlainOptional e (go (status (is_in marks) 0 t))
   where
-    built : PlainOptional (rearranged t marks)
-    built = let gs = collect marks (leaves t) in
+    built : (marks : List ℕ) → PlainOptional (rearranged t marks)
+    built marks = let gs = collect marks (leaves t) in
         let T = rows_of (table gs t) in
         tree_for_plain T (take (length marks) gs) (drop (length marks) gs) (choice T (2 ^ length marks) (2 ^ length gs))
 
     go : (s : Status) → PlainOptional (gathered_as s t marks)
-    go Free = built
-    go Mixed = built
+    go Free = built _
+    go Mixed = built _
     go (All k) = w
     go (Held k) = w
