@@ -1,11 +1,11 @@
 // Reading files by name, for the programs.
 #![tactic(auto)]
 
-ghost use Rattle.std.specs.Io.{ReadsAtMost};
+ghost use Rattle.io.specs.Counts.{IsPrefixLen};
 
 use std::env::FillError;
 use std::fs;
-use std::io::{self, Read};
+use std::io::Read;
 use std::rt::{Env, Files};
 
 // Whether the program has an argument i. Argument 0 is its name.
@@ -13,35 +13,35 @@ pub fn has_argument(rt: &impl Env, i: usize) -> bool {
     !matches!(rt.arg(i, &mut []), Err(FillError::NotPresent))
 }
 
-// Reads until the buffer is full or the input ends, and returns how many bytes it put at the buffer's start.
-pub fn read_full<R: Read>(reader: &mut R, bytes: &mut [u8]) -> io::Result<usize>
-    ensures { ReadsAtMost result bytes.new }
+// Reads until the buffer is full, the input ends or a read fails, and returns how many bytes it put at the buffer's start.
+pub fn read_full<R: Read>(reader: &mut R, bytes: &mut [u8]) -> usize
+    ensures { IsPrefixLen result bytes.new }
 {
     let mut done = 0;
     while done < bytes.len() {
-        let n = reader.read(&mut bytes[done..])?;
+        let n = reader.read(&mut bytes[done..]).unwrap_or(0);
         if n == 0 {
             break;
         }
         done += n;
     }
-    Ok(done)
+    done
 }
 
 // Reads the file that argument i names, as far as the buffer goes, and returns how many bytes it has. A file that can't be opened counts as
 // empty, and so does one whose name is missing.
-pub fn read_named(rt: &(impl Files + Env), i: usize, bytes: &mut [u8]) -> io::Result<usize>
-    ensures { ReadsAtMost result bytes.new }
+pub fn read_named(rt: &(impl Files + Env), i: usize, bytes: &mut [u8]) -> usize
+    ensures { IsPrefixLen result bytes.new }
 {
     let mut path = [0u8; 4096];
     let Ok(length) = rt.arg(i, &mut path) else {
-        return Ok(0);
+        return 0;
     };
     let Ok(path) = str::from_utf8(&path[..length]) else {
-        return Ok(0);
+        return 0;
     };
     let Ok(mut file) = fs::open(rt, path) else {
-        return Ok(0);
+        return 0;
     };
     read_full(&mut file, bytes)
 }

@@ -6,9 +6,9 @@ use std::io;
 
 fn main(rt: HostRuntime) -> io::Result<()> {
     let mut question = [0u8; sheet::ENOUGH_BYTES];
-    let asked = input::read_named(&rt, 1, &mut question)?;
+    let asked = input::read_named(&rt, 1, &mut question);
     let mut candidate = [0u8; sheet::ENOUGH_BYTES];
-    let drawn = input::read_named(&rt, 2, &mut candidate)?;
+    let drawn = input::read_named(&rt, 2, &mut candidate);
     let marking = marking::mark(&question[..asked], &candidate[..drawn]);
     let line = marking::mark_line(marking);
     let bytes = line.bytes;

@@ -11,13 +11,13 @@ fn answer(
     sheet: &[u8],
     out: &mut [u8],
     device: printing::Device,
-) -> io::Result<key::KeyAnswer> {
+) -> key::KeyAnswer {
     if !input::has_argument(rt, 1) {
-        return Ok(key::key(sheet, out, device));
+        return key::key(sheet, out, device);
     }
     let mut table = [0u8; move_table::ENOUGH_BYTES];
-    let count = input::read_named(rt, 1, &mut table)?;
-    Ok(key::key_with(sheet, &table[..count], out, device))
+    let count = input::read_named(rt, 1, &mut table);
+    key::key_with(sheet, &table[..count], out, device)
 }
 
 // Reads and prints.
@@ -26,9 +26,9 @@ pub fn print_key(
     device: printing::Device,
 ) -> io::Result<()> {
     let mut sheet = [0u8; sheet::ENOUGH_BYTES];
-    let count = input::read_full(&mut rt.reader(), &mut sheet)?;
+    let count = input::read_full(&mut rt.reader(), &mut sheet);
     let mut out = [0u8; key::KEY_BYTES];
-    let answer = answer(rt, &sheet[..count], &mut out, device)?;
+    let answer = answer(rt, &sheet[..count], &mut out, device);
     let key::KeyAnswer::Written(count) = answer else {
         return Ok(());
     };
