@@ -6,7 +6,7 @@ usage: python3 tools/respell.py [--names]      at the top of the repository, onc
 port.py spells only some of them. A function, lemma, field, constructor or parameter goes to snake case: a capital inside a name
 becomes `_` and the small letter, a dash becomes `_`. Types and modules keep their names. A lemma whose new name is that of a
 function or of another lemma gets `_lem`. A name that a file imports from a library stays in that file, and so do labels of Rattle
-in the proofs of functions (Proof.antt), which are written anew afterwards. README.md and docs/ are respelled in backticks only.
+in the proofs of functions (Proof.antt), which are written anew afterwards.
 --names prints the old and new names and writes nothing.
 """
 

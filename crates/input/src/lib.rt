@@ -1,4 +1,4 @@
-// Reading files by name, for the programs.
+// Reading arguments, files by name and standard input, for the programs.
 #![tactic(auto)]
 
 ghost use Rattle.io.specs.Counts.{IsPrefixLen};
