@@ -100,7 +100,7 @@ pub fn choose(t: &[bool; ROWS], w: usize, total: usize) -> Choice
 // ---- the gathered tree
 
 // The rows of an exact table: those that are 1, and those that are 0.
-#[derive(Drop)]
+#[derive(Clone, Copy)]
 pub struct Rows {
     pub on: [bool; ROWS],
     pub off: [bool; ROWS],

@@ -208,14 +208,14 @@ pub fn some_on(on: &[bool]) -> bool
 }
 
 // The rows of a table with a variable less.
-#[derive(Drop)]
+#[derive(Clone, Copy)]
 pub struct Half {
     pub on: [bool; HALF_ROWS],
     pub off: [bool; HALF_ROWS],
 }
 
 // Both parts' rows.
-#[derive(Drop)]
+#[derive(Clone, Copy)]
 pub struct Parts {
     pub first: Half,
     pub second: Half,

@@ -1,6 +1,7 @@
 -- The loop over the lifts: after i of them, what is written and what is left to write from the present tree make up the whole.
 use mathlib.Core.Path.{◌≡◌, refl, sym, ap, ◌∙◌}
 use mathlib.Core.List.{List, [], ◌∷◌, ◌++◌}
+use mathlib.Core.Logic.{◌⊎◌, inl, inr}
 use Prim.Native.Nat.{ℕ, suc, ◌+◌, ◌-◌, ◌*◌, ◌≤◌, ◌<◌}
 use native.Mathlib.Omega.{arith}
 use lib.ListN.{length, take}
@@ -103,3 +104,11 @@ module _ {m : MoveTable} {sheet : List ℕ} {t : Tree} {ls : List LiftLine} {cou
             most = omega (arith, R.most);
           }
       go (l ∷ more) q = absurd (omega (arith, R.asked.counted, ap (length {A = LiftLine}) q))
+
+-- the tag of a lift line is none of the others'
+pub not_two : {X : Type 0} → (◌≡◌ {A = ℕ} 2 0) ⊎ ((◌≡◌ {A = ℕ} 2 1) ⊎ ((◌≡◌ {A = ℕ} 2 3) ⊎ ((◌≡◌ {A = ℕ} 2 4) ⊎ (◌≡◌ {A = ℕ} 2 5)))) → X
+not_two (inl e) = absurd (omega arith)
+not_two (inr (inl e)) = absurd (omega arith)
+not_two (inr (inr (inl e))) = absurd (omega arith)
+not_two (inr (inr (inr (inl e)))) = absurd (omega arith)
+not_two (inr (inr (inr (inr e)))) = absurd (omega arith)

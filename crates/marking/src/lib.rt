@@ -134,7 +134,7 @@ pub fn mark(question: &[u8], candidate: &[u8]) -> Marking
 pub const LINE_BYTES: usize = 30;
 
 // A line, and how many of the bytes it has.
-#[derive(Drop)]
+#[derive(Clone, Copy)]
 pub struct MarkLine {
     pub bytes: [u8; LINE_BYTES],
     pub count: usize,

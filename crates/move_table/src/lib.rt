@@ -42,7 +42,7 @@ pub struct LoadedTable {
 }
 
 // What loading answers: the number of the first fault, 0 for none, and its line; and the table, of zeros where it is refused.
-#[derive(Drop)]
+#[derive(Clone, Copy)]
 pub struct LoadAnswer {
     pub number: u16,
     pub line: usize,

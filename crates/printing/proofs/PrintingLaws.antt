@@ -104,20 +104,20 @@ unfolding lines
 code_text_end d code h = rw (fours_end (row_of d) code h)
 
 -- the lines of the numbers of instructions are the instructions' lines
-rows_of : {I : Type 0} (row_for : I → Row) (instruction : ℕ → ℕ → ℕ → ℕ → I) (l : List ℕ)
+rows_of_lem : {I : Type 0} (row_for : I → Row) (instruction : ℕ → ℕ → ℕ → ℕ → I) (l : List ℕ)
     → fours (λ a b c d. row_for (instruction a b c d)) l ≡ instruction_rows row_for (fours instruction l)
 unfolding fours instruction_rows
-rows_of row_for f [] = refl
-rows_of row_for f (a ∷ []) = refl
-rows_of row_for f (a ∷ b ∷ []) = refl
-rows_of row_for f (a ∷ b ∷ c ∷ []) = refl
-rows_of row_for f (a ∷ b ∷ c ∷ d ∷ l) = ap (λ (rs : List Row). row_for (f a b c d) ∷ rs) (rows_of row_for f l)
+rows_of_lem row_for f [] = refl
+rows_of_lem row_for f (a ∷ []) = refl
+rows_of_lem row_for f (a ∷ b ∷ []) = refl
+rows_of_lem row_for f (a ∷ b ∷ c ∷ []) = refl
+rows_of_lem row_for f (a ∷ b ∷ c ∷ d ∷ l) = ap (λ (rs : List Row). row_for (f a b c d) ∷ rs) (rows_of_lem row_for f l)
 
 pub newer_rows : (is : List Instruction) → code_rows Newer (newer.numbers_of is) ≡ instruction_rows instruction_row is
-newer_rows is = rows_of instruction_row instruction (newer.numbers_of is) ∙ ap (instruction_rows instruction_row) (instructions_numbers is)
+newer_rows is = rows_of_lem instruction_row instruction (newer.numbers_of is) ∙ ap (instruction_rows instruction_row) (instructions_numbers is)
 
 pub older_rows : (is : List older.Instruction) → code_rows Older (older.numbers_of is) ≡ instruction_rows older_row is
-older_rows is = rows_of older_row older.instruction (older.numbers_of is) ∙ ap (instruction_rows older_row) (older-laws.instructions_numbers is)
+older_rows is = rows_of_lem older_row older.instruction (older.numbers_of is) ∙ ap (instruction_rows older_row) (older-laws.instructions_numbers is)
 
 -- ---- how long lines are at most
 line_two : (word : List ℕ) (a b : ℕ) → length (line word (a ∷ b ∷ [])) ≡ length word + length (digits a) + length (digits b) + 3

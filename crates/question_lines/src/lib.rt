@@ -20,7 +20,7 @@ use tree::{DIFFERENCE, UNION};
 pub const LINE_BYTES: usize = 19;
 
 // A line, with 0 behind it.
-#[derive(Drop)]
+#[derive(Clone, Copy)]
 pub struct QuestionLine {
     pub bytes: [u8; LINE_BYTES],
     pub count: usize,

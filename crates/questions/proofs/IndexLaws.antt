@@ -19,10 +19,10 @@ one_less : (o : Option ℕ) (i : ℕ) → map suc o ≡ some i → (j : ℕ) × 
 one_less none i e = not_some e
 one_less (some j) i e = (j, refl, (let q : suc j ≡ i = cc in sym q))
 
-index_at : (ls : List (List ℕ)) (l : List ℕ) (i : ℕ) → index_in ls l ≡ some i → get_elem? ls i ≡ some l
+index_at_lem : (ls : List (List ℕ)) (l : List ℕ) (i : ℕ) → index_in ls l ≡ some i → get_elem? ls i ≡ some l
 unfolding index_in
-index_at [] l i e = not_some e
-index_at (q ∷ ls) l i e = go (List-discrete ℕ_discrete q l) e (index_at ls l)
+index_at_lem [] l i e = not_some e
+index_at_lem (q ∷ ls) l i e = go (List-discrete ℕ_discrete q l) e (index_at_lem ls l)
   where
     go : (d : Dec (q ≡ l)) → picked d (index_in ls l) ≡ some i → ((j : ℕ) → index_in ls l ≡ some j → get_elem? ls j ≡ some l) → get_elem? (q ∷ ls) i ≡ some l
     go (yes s) e ih = let z : 0 ≡ i = cc in rw (sym z) (ap some s)
@@ -46,7 +46,7 @@ pub index_found : (i : ℕ) (l : List ℕ) → get_elem? questions i ≡ some l 
 index_found i l e = at_index questions questions_rise i l e
 
 pub found_index : (i : ℕ) (l : List ℕ) → index_of l ≡ some i → get_elem? questions i ≡ some l
-found_index i l e = index_at questions l i e
+found_index i l e = index_at_lem questions l i e
 
 pub index_none : (l : List ℕ) → (IsQuestion l → ⊥) → index_of l ≡ none
 index_none l h = go (index_of l) refl

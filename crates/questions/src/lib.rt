@@ -28,7 +28,7 @@ pub enum Reply {
 }
 
 // A tree by value: its entries with 0 behind them. Refused, all are 0.
-#[derive(Drop)]
+#[derive(Clone, Copy)]
 pub struct Question {
     pub reply: Reply,
     pub entries: [u16; MOST_ENTRIES],

@@ -431,7 +431,7 @@ fn read_lines(sheet: &[u8], tasks: bool, tree: &mut [u16], marks: &mut [u16]) ->
 // What reading answers: the number and the line of the first fault, both 0 where the sheet is accepted; the tree's entries,
 // the marks, the byte where the lifts begin and how many there are. Entries past the ends are 0, and where the sheet is
 // refused everything but number and line is 0.
-#[derive(Drop)]
+#[derive(Clone, Copy)]
 pub struct Sheet {
     pub number: u8,
     pub line: usize,
@@ -490,7 +490,7 @@ pub fn read(sheet: &[u8]) -> Sheet
 
 // What reading a candidate's file answers: the number and the line of the first fault, both 0 where it is accepted, and the entries of
 // the tree in it. Entries past its end are 0, and where the file is refused everything but number and line is 0.
-#[derive(Drop)]
+#[derive(Clone, Copy)]
 pub struct Drawing {
     pub number: u8,
     pub line: usize,

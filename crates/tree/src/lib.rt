@@ -52,7 +52,7 @@ pub fn is_in(list: &[u16], x: u16) -> bool
 }
 
 // Up to eight different groups; a count of `TOO_MANY` stands for more.
-#[derive(Drop)]
+#[derive(Clone, Copy)]
 pub struct Groups {
     pub list: [u16; MOST_GROUPS],
     pub count: usize,
