@@ -7,7 +7,6 @@ use mathlib.Core.Option.{Option, some, none}
 use Prim.Native.Nat.{ℕ, zero, suc, ◌+◌, ◌^◌, ◌<◌}
 use native.Mathlib.Omega.{arith}
 use lib.Dec.{eqb}
-use borrow.Author.Tests.{not-true, not-false}
 use lib.ListN.{length, get_or}
 use Rattle.tree.specs.Tree.{Basic, plus, minus, Tree, is_group, is_in}
 use Rattle.tree.specs.InnerGroups.{Distinct}
@@ -18,19 +17,18 @@ use Rattle.free_tables.specs.InnerTables.{Table, half, row_at, low_row, first_pa
 use Rattle.forms.specs.declared.Row.{Row}
 use Rattle.forms.specs.declared.Form.{Form}
 use Rattle.forms.specs.declared.Form.TheVariants.{Drop, Less, Plus, ReducedPlus, JoinedLess, LessOutside, ReducedUnion, JoinedDifference}
-use Rattle.free_tables.proofs.SearchLaws.{some_fails}
 use Rattle.forms.proofs.TestLaws.{both}
 use Rattle.forms.proofs.FormLaws.{fits, form_value, forms_law}
 use Rattle.splits.specs.InnerSplits.{is_drop, first_holder, second_holder, split_taken}
 use Rattle.splits.specs.declared.Holder.{Holder}
 use Rattle.splits.specs.declared.Holder.TheVariants.{Absent, Dropped, Held}
-use Rattle.splits.specs.declared.Use.{Use}
-use Rattle.splits.specs.declared.Use.TheVariants.{No, Plain, First, Second}
+use Rattle.splits.specs.declared.Plan.{Plan}
+use Rattle.splits.specs.declared.Plan.TheVariants.{Plain, First, Second}
 use Rattle.splits.specs.declared.Split.{Split}
 use Rattle.builder.specs.InnerBuilding.{join, single, left_tree, right_tree, outer, variable_tree, formed, without, build, Buildable}
 use Rattle.builder.proofs.JoinLaws.{selects_optional, OverOptional, PlainOptional, join_plain, join_over, single_selects, single_over, single_plain}
 use Rattle.builder.proofs.FormLaws.{formed_selects}
-use Rattle.builder.proofs.RowLaws.{without_counts, row_around, split_row, half_rows, may_use_lem}
+use Rattle.builder.proofs.RowLaws.{without_counts, row_around, split_row, half_rows, some_row, may_use_lem}
 use Rattle.builder.proofs.TakenLaws.{BelowSays, Taken, is_taken}
 use Rattle.builder.proofs.ReadyLaws.{SplitBuildable, split_buildable, top_may, in_without, variable_in, group_not_zero}
 
@@ -56,7 +54,7 @@ module _ (v : ℕ → Bool) (h : Option Tree) where
   unfolding first_part second_part
   agree_split {m} {t} {gs} n e r s S a b p q =
       let R = row_of (filled v h) (without s.variable gs) in
-      let inside : R < half t = omega (arith, half_rows t.on n (r.rows ∙ ap (λ (k : ℕ). 2 ^ k) e), row_below (filled v h) (without s.variable gs), ap (λ (k : ℕ). 2 ^ k) (without_counts gs s.variable S.below n e)) in
+      let inside : R < half t = omega (arith, half_rows t n (r.rows ∙ ap (λ (k : ℕ). 2 ^ k) e), row_below (filled v h) (without s.variable gs), ap (λ (k : ℕ). 2 ^ k) (without_counts gs s.variable S.below n e)) in
       let l = row_at t (low_row (2 ^ s.variable) R) in
       let u = row_at t (low_row (2 ^ s.variable) R + 2 ^ s.variable) in
       let x = get_or gs s.variable 0 in
@@ -155,15 +153,14 @@ fits_some r v none e q = absurd (false≢true (sym (ap (λ (b : Bool). (not b ||
 
 pub build_some : (h : Option Tree) (choice : Holder → Table → ℕ → ℕ) {t : Table} {gs : List ℕ} → Buildable Absent t gs → Distinct gs → some_on t ≡ true
     → (u : Tree) × (build choice (length gs) Absent t gs h ≡ some u)
-unfolding some_on
 build_some h choice {t} {gs} r d e =
-    let F = some_fails (λ i. not (get_or t.on i false)) (length t.on) (not-true _ e) in
+    let F = some_row t e in
     let i = F.0 in
     let v = filling gs i in
     let row : row_of (filled v h) gs ≡ i
     = row_agree (filled v h) v gs (λ g q. ap (λ (b : Bool). cond b (selects_optional v h) (v g)) (group_not_zero g (r.variables g q)))
     ∙ row_filling gs i d (omega (arith, F.1, r.rows)) in
-    fits_some (row_at t i) v _ (not-false _ F.2)
+    fits_some (row_at t i) v _ F.2
     (ap (λ (k : ℕ). fits (row_at t k) (selects_optional v (build choice (length gs) Absent t gs h))) (sym row) ∙ build_agrees v h choice (length gs) refl r)
 
 -- ---- a table whose holder is dropped: the tree is that of its part without the holder
@@ -183,17 +180,16 @@ not_absent e = let z : ◌≡◌ {A = ℕ} 0 1 = cc in omega arith
 not_held : Dropped ≡ Held → ⊥
 not_held e = let z : ◌≡◌ {A = ℕ} 0 1 = cc in omega arith
 
-never_below : (form : Form) (t : Table) (step : ℕ) (u : Use) → (u ≡ No → ⊥) → BelowSays Dropped form t step u → ⊥
-never_below form t step No n b = n refl
-never_below form t step Plain n b = not_absent b.0
-never_below form t step First n b = not_held b.0
-never_below form t step Second n b = not_held b.0
+never_below : (form : Form) (t : Table) (step : ℕ) (u : Plan) → BelowSays Dropped form t step u → ⊥
+never_below form t step Plain b = not_absent b.0
+never_below form t step First b = not_held b.0
+never_below form t step Second b = not_held b.0
 
 dropped_split : (t : Table) (n : ℕ) (s : Split) → Taken Dropped t n s → s ≡ record { form = Drop; variable = n; plan = Plain }
 dropped_split t n s (inl T) =
     ap (λ (f : Form). record { form = f; variable = s.variable; plan = s.plan }) (drop_form s.form (both (usable s.form t (half t)) (is_drop s.form) T.may).1)
-    ∙ ap₂ (λ (v : ℕ) (u : Use). record { form = Drop; variable = v; plan = u }) T.at T.plain
-dropped_split t n s (inr B) = absurd (never_below s.form t (2 ^ s.variable) s.plan B.some B.says)
+    ∙ ap₂ (λ (v : ℕ) (u : Plan). record { form = Drop; variable = v; plan = u }) T.at T.plain
+dropped_split t n s (inr B) = absurd (never_below s.form t (2 ^ s.variable) s.plan B.says)
 
 pub build_dropped : (h : Option Tree) (choice : Holder → Table → ℕ → ℕ) (n : ℕ) {t : Table} {gs : List ℕ} → Buildable Dropped t gs
     → build choice (suc n) Dropped t gs h ≡ join plus (build choice n Absent (first_part Drop t (2 ^ n)) (without n gs) h) none

@@ -14,7 +14,7 @@ use lib.Seq.{get_or_at, take-append_seam, take-append-le, drop-append-le}
 use Rattle.tree.specs.Tree.{Tree, leaf, is_group, is_in}
 use Rattle.tree.proofs.TreeLaws.{or_cases, is_in_append, in_left, in_right}
 use Rattle.tree.proofs.GroupLaws.{is_in_here, in_later}
-use Rattle.forms.specs.InnerForms.{first_row, second_row}
+use Rattle.forms.specs.InnerForms.{free, first_row, second_row}
 use Rattle.free_tables.specs.InnerTables.{Table, half, row_at, low_row, at_pair, split_by, first_part, second_part, usable}
 use Rattle.forms.specs.declared.Row.{Row}
 use Rattle.forms.specs.declared.Form.{Form}
@@ -26,12 +26,12 @@ use Rattle.forms.proofs.HolderLaws.{keeps_once}
 use Rattle.splits.specs.InnerSplits.{form_count, form_of, is_drop, keeps_holder, allowed_top, first_top, first_holder, second_holder, split_taken}
 use Rattle.splits.specs.declared.Holder.{Holder}
 use Rattle.splits.specs.declared.Holder.TheVariants.{Absent, Dropped, Held}
-use Rattle.splits.specs.declared.Use.{Use}
-use Rattle.splits.specs.declared.Use.TheVariants.{No, Plain, First, Second}
+use Rattle.splits.specs.declared.Plan.{Plan}
+use Rattle.splits.specs.declared.Plan.TheVariants.{Plain, First, Second}
 use Rattle.splits.specs.declared.Split.{Split}
 use Rattle.builder.specs.InnerBuilding.{single, variable_tree, without, most_built, most_for, most_formed, Variables, HolderReady, Buildable, HolderTree}
 use Rattle.builder.proofs.JoinLaws.{group_holds, single_leaf}
-use Rattle.builder.proofs.RowLaws.{around, without_counts, split_row, half_rows, split_rows, split_same, may_use_lem, usable_by, low_zero}
+use Rattle.builder.proofs.RowLaws.{around, without_counts, split_row, half_rows, split_rows, may_use_lem, usable_by, low_zero}
 use Rattle.builder.proofs.TakenLaws.{first_allowed, some_allowed, BelowSays, Top, Taken, is_taken}
 
 -- the nodes of a variable's tree, with a holder of z nodes
@@ -144,15 +144,14 @@ module _ (f : Row → Row → Row) (t : Table) (step : ℕ) where
       go true e = let l = ltb-true i (half t) e in ap (λ (x : Row). x.on && x.off) (split_row f t step i l) ∙ h i l
       go false e =
           let l : half t ≤ i = ltb-false i (half t) e in
-          ap (λ (b : Bool). b && (row_at (split_by f t step) i).off)
-          (get_or-eq_default (split_by f t step).on false (omega (arith, length_tabulate (λ r. (at_pair f t step r).on) (half t) 0)))
+          ap (λ (x : Row). x.on && x.off) (get_or-eq_default (split_by f t step) free (omega (arith, length_tabulate (at_pair f t step) (half t) 0)))
 
 module _ {m : Holder} {t : Table} {gs : List ℕ} (n : ℕ) (e : length gs ≡ suc n) (r : Buildable m t gs) where
-  all_rows : length t.on ≡ 2 ^ suc n
+  all_rows : length t ≡ 2 ^ suc n
   all_rows = r.rows ∙ ap (λ (k : ℕ). 2 ^ k) e
 
   some_row : 0 < half t
-  some_row = omega (arith, half_rows t.on n all_rows, pow_pos n)
+  some_row = omega (arith, half_rows t n all_rows, pow_pos n)
 
   module _ (form : Form) (v : ℕ) (below : v < length gs) (may : usable form t (2 ^ v) ≡ true) (k : Holder) (vs : Variables k (without v gs)) where
     rows : (i : ℕ) → i < half t → (((at_pair (first_row form) t (2 ^ v) i).on && (at_pair (first_row form) t (2 ^ v) i).off) ≡ false)
@@ -163,7 +162,6 @@ module _ {m : Holder} {t : Table} {gs : List ℕ} (n : ℕ) (e : length gs ≡ s
     unfolding first_part
     first_ready h = record {
       rows = split_rows (first_row form) t (2 ^ v) n all_rows ∙ ap (λ (k : ℕ). 2 ^ k) (sym (without_counts gs v below n e));
-      same = split_same (first_row form) t (2 ^ v);
       first = split_first (first_row form) t (2 ^ v) some_row (may_use_lem may).first;
       consistent = split_consistent (first_row form) t (2 ^ v) (λ i l. (rows i l).0);
       variables = vs;
@@ -174,7 +172,6 @@ module _ {m : Holder} {t : Table} {gs : List ℕ} (n : ℕ) (e : length gs ≡ s
     unfolding second_part
     second_ready h = record {
       rows = split_rows (second_row form) t (2 ^ v) n all_rows ∙ ap (λ (k : ℕ). 2 ^ k) (sym (without_counts gs v below n e));
-      same = split_same (second_row form) t (2 ^ v);
       first = split_first (second_row form) t (2 ^ v) some_row (may_use_lem may).second;
       consistent = split_consistent (second_row form) t (2 ^ v) (λ i l. (rows i l).1);
       variables = vs;
@@ -276,7 +273,7 @@ module _ {m : Holder} {t : Table} {gs : List ℕ} (n : ℕ) (e : length gs ≡ s
   top_ready s T =
       let b : s.variable < length gs = omega (arith, T.at) in
       let may : usable s.form t (2 ^ s.variable) ≡ true
-      = subst (λ (k : ℕ). usable s.form t k ≡ true) (half_rows t.on n (all_rows n e r) ∙ ap (λ (k : ℕ). 2 ^ k) (sym T.at)) (top_usable m s.form t T.may) in
+      = subst (λ (k : ℕ). usable s.form t k ≡ true) (half_rows t n (all_rows n e r) ∙ ap (λ (k : ℕ). 2 ^ k) (sym T.at)) (top_usable m s.form t T.may) in
       let vs : AreGroups (without s.variable gs) = subst (λ (k : ℕ). AreGroups (without k gs)) (sym T.at) (top_variables m gs n e r.variables) in
       let kind : Kind m (get_or gs s.variable 0) 0 = subst (λ (k : ℕ). Kind m (get_or gs k 0) 0) (sym T.at) (top_kind m gs n e r.variables) in
       record {
@@ -284,18 +281,17 @@ module _ {m : Holder} {t : Table} {gs : List ℕ} (n : ℕ) (e : length gs ≡ s
         may = may;
         variable = kind_either m (get_or gs s.variable 0) kind;
         tree = kind_tree m (get_or gs s.variable 0) kind;
-        holders = λ h q. subst (λ (u : Use). HolderTree (first_holder u) h × HolderTree (second_holder u) h) (sym T.plain) (tt, tt);
-        first = subst (λ (u : Use). Buildable (first_holder u) (first_part s.form t (2 ^ s.variable)) (without s.variable gs)) (sym T.plain)
+        holders = λ h q. subst (λ (u : Plan). HolderTree (first_holder u) h × HolderTree (second_holder u) h) (sym T.plain) (tt, tt);
+        first = subst (λ (u : Plan). Buildable (first_holder u) (first_part s.form t (2 ^ s.variable)) (without s.variable gs)) (sym T.plain)
             (first_ready n e r s.form s.variable b may Absent vs tt);
-        second = subst (λ (u : Use). Buildable (second_holder u) (second_part s.form t (2 ^ s.variable)) (without s.variable gs)) (sym T.plain)
+        second = subst (λ (u : Plan). Buildable (second_holder u) (second_part s.form t (2 ^ s.variable)) (without s.variable gs)) (sym T.plain)
             (second_ready n e r s.form s.variable b may Absent vs tt);
-        room = λ k z q. subst (λ (u : Use). most_formed s.form (variable_size z (get_or gs s.variable 0)) (most_for (first_holder u) k z) (most_for (second_holder u) k z) ≤ most_for m (suc k) z)
+        room = λ k z q. subst (λ (u : Plan). most_formed s.form (variable_size z (get_or gs s.variable 0)) (most_for (first_holder u) k z) (most_for (second_holder u) k z) ≤ most_for m (suc k) z)
             (sym T.plain) (top_room m s.form t k z (get_or gs s.variable 0) kind T.may);
       }
 
-  below_by : (form : Form) (v : ℕ) → v < n → (u : Use) → (u ≡ No → ⊥) → BelowSays m form t (2 ^ v) u → SplitBuildable m t gs (record { form = form; variable = v; plan = u })
-  below_by form v h No given b = absurd (given refl)
-  below_by form v h Plain given (p, may) =
+  below_by : (form : Form) (v : ℕ) → v < n → (u : Plan) → BelowSays m form t (2 ^ v) u → SplitBuildable m t gs (record { form = form; variable = v; plan = u })
+  below_by form v h Plain (p, may) =
       let l : v < length gs = omega arith in
       let groups : AreGroups gs = subst (λ (k : Holder). Variables k gs) p r.variables in
       let vs : AreGroups (without v gs) = λ g q. groups g (in_without gs v l g q) in
@@ -310,7 +306,7 @@ module _ {m : Holder} {t : Table} {gs : List ℕ} (n : ℕ) (e : length gs ≡ s
         second = second_ready n e r form v l may Absent vs tt;
         room = λ k z q. subst (λ (x : Holder). most_formed form (variable_size z (get_or gs v 0)) (most_built k) (most_built k) ≤ most_for x (suc k) z) (sym p) (group_room form k z (get_or gs v 0) g);
       }
-  below_by form v h First given (p, may, d, a) =
+  below_by form v h First (p, may, d, a) =
       let l : v < length gs = omega arith in
       let vars = subst (λ (k : Holder). Variables k gs) p r.variables in
       let rest = below_variables gs vars.0 n v e h vars.1 vars.2 in
@@ -326,7 +322,7 @@ module _ {m : Holder} {t : Table} {gs : List ℕ} (n : ℕ) (e : length gs ≡ s
         room = λ k z q. subst (λ (x : Holder). most_formed form (variable_size z (get_or gs v 0)) (most_for Held k z) (most_for Dropped k z) ≤ most_for x (suc k) z) (sym p)
             (beside_room form n k v z (get_or gs v 0) h (sym q ∙ e) g).0;
       }
-  below_by form v h Second given (p, may, d, a, stays) =
+  below_by form v h Second (p, may, d, a, stays) =
       let l : v < length gs = omega arith in
       let vars = subst (λ (k : Holder). Variables k gs) p r.variables in
       let rest = below_variables gs vars.0 n v e h vars.1 vars.2 in
@@ -345,7 +341,7 @@ module _ {m : Holder} {t : Table} {gs : List ℕ} (n : ℕ) (e : length gs ≡ s
 
   taken_ready : (s : Split) → Taken m t n s → SplitBuildable m t gs s
   taken_ready s (inl T) = top_ready s T
-  taken_ready s (inr B) = below_by s.form s.variable B.less s.plan B.some B.says
+  taken_ready s (inr B) = below_by s.form s.variable B.less s.plan B.says
 
 pub split_buildable : {m : Holder} {t : Table} {gs : List ℕ} (n i : ℕ) → length gs ≡ suc n → Buildable m t gs → SplitBuildable m t gs (split_taken m t n i)
 split_buildable {m} {t} n i e r = taken_ready n e r (split_taken m t n i) (is_taken m t n i (top_may r))

@@ -1,16 +1,16 @@
 -- Rows of a table and of its parts: a row of the table is a row of a part, with the split variable's bit.
-use mathlib.Core.Path.{◌≡◌, refl, sym, ap, ap₂, subst, ◌∙◌}
-use mathlib.Core.Bool.{Bool, true, false, not, cond, false≢true}
-use mathlib.Core.List.{List, ◌∷◌, ◌++◌}
-use Prim.Native.Nat.{ℕ, suc, ◌+◌, ◌*◌, ◌/◌, ◌%◌, ◌^◌, ◌<◌}
+use mathlib.Core.Path.{◌≡◌, refl, sym, ap, subst, ◌∙◌}
+use mathlib.Core.Bool.{Bool, true, false, cond, false≢true}
+use Rattle.std.proofs.lemmas.List.Folds.{list_any_at}
+use mathlib.Core.List.{List, [], ◌∷◌, ◌++◌}
+use Prim.Native.Nat.{ℕ, suc, ◌+◌, ◌*◌, ◌%◌, ◌^◌, ◌<◌}
 use native.Mathlib.Nat.{mul-add, mul_left_comm, mod-eq_of_lt, zero-mod, add-mul-mod_self_left, pow-suc}
 use native.Mathlib.Omega.{arith}
 use borrow.Author.Tests.{not-true}
 use lib.ListN.{length, get_or, take, drop, take-append-drop}
 use Rattle.tree.proofs.PassLaws.{here}
 use Rattle.table.proofs.TableLaws.{row_of, row_below, row_append, tabulate_at, length_tabulate}
-use Rattle.free_tables.specs.InnerSearch.{all_pass}
-use Rattle.forms.specs.InnerForms.{may_use, first_row, second_row}
+use Rattle.forms.specs.InnerForms.{free, may_use, first_row, second_row}
 use Rattle.free_tables.specs.InnerTables.{Table, row_at, low_row, half, at_pair, split_by, usable, some_on}
 use Rattle.forms.specs.declared.Row.{Row}
 use Rattle.forms.specs.declared.Form.{Form}
@@ -54,20 +54,15 @@ module _ (gs : List ℕ) (v : ℕ) (h : v < length gs) where
 -- ---- the rows of a part
 module _ (f : Row → Row → Row) (t : Table) (step r : ℕ) (h : r < half t) where
   pub split_row : row_at (split_by f t step) r ≡ at_pair f t step r
-  split_row = ap₂ (λ (x y : Bool). record { on = x; off = y })
-      (tabulate_at (λ i. (at_pair f t step i).on) (half t) 0 r h ∙ ap (λ (i : ℕ). (at_pair f t step i).on) (omega arith))
-      (tabulate_at (λ i. (at_pair f t step i).off) (half t) 0 r h ∙ ap (λ (i : ℕ). (at_pair f t step i).off) (omega arith))
+  split_row = tabulate_at (at_pair f t step) (half t) 0 r free h ∙ ap (at_pair f t step) (omega arith)
 
 -- ---- sizes
-pub half_rows : (on : List Bool) (n : ℕ) → length on ≡ 2 ^ suc n → length on / 2 ≡ 2 ^ n
-half_rows on n e = omega (arith, pow-suc 2 n)
+pub half_rows : (t : Table) (n : ℕ) → length t ≡ 2 ^ suc n → half t ≡ 2 ^ n
+half_rows t n e = omega (arith, pow-suc 2 n)
 
 module _ (f : Row → Row → Row) (t : Table) (step : ℕ) where
-  pub split_rows : (n : ℕ) → length t.on ≡ 2 ^ suc n → length (split_by f t step).on ≡ 2 ^ n
-  split_rows n e = length_tabulate (λ r. (at_pair f t step r).on) (half t) 0 ∙ half_rows t.on n e
-
-  pub split_same : length (split_by f t step).off ≡ length (split_by f t step).on
-  split_same = length_tabulate (λ r. (at_pair f t step r).off) (half t) 0 ∙ sym (length_tabulate (λ r. (at_pair f t step r).on) (half t) 0)
+  pub split_rows : (n : ℕ) → length t ≡ 2 ^ suc n → length (split_by f t step) ≡ 2 ^ n
+  split_rows n e = length_tabulate (at_pair f t step) (half t) 0 ∙ half_rows t n e
 
 -- ---- what `usable` says
 pub record MayUse (form : Form) (t : Table) (step : ℕ) : Type 0 where
@@ -91,10 +86,13 @@ pub low_zero : (step : ℕ) → low_row step 0 ≡ 0
 low_zero step = omega (arith, zero-mod step)
 
 -- a row that is 1
-pub some_on_lem : (t : Table) (i : ℕ) → i < length t.on → (row_at t i).on ≡ true → some_on t ≡ true
-unfolding some_on
-some_on_lem t i h e = go (all_pass (λ k. not (get_or t.on k false)) (length t.on)) refl
+pub some_on_lem : (t : Table) (i : ℕ) → i < length t → (row_at t i).on ≡ true → some_on t ≡ true
+some_on_lem t i h e = list_any_at (λ r. r.on) t i free h e
+
+pub some_row : (t : Table) → some_on t ≡ true → (i : ℕ) × (i < length t) × ((row_at t i).on ≡ true)
+some_row [] e = absurd (false≢true e)
+some_row (r ∷ t) e = go r.on refl (some_row t)
   where
-    go : (b : Bool) → all_pass (λ k. not (get_or t.on k false)) (length t.on) ≡ b → not b ≡ true
-    go true q = absurd (false≢true (sym (ap not e) ∙ all_pass_lem (λ k. not (get_or t.on k false)) (length t.on) q i h))
-    go false q = refl
+    go : (b : Bool) → r.on ≡ b → (some_on t ≡ true → (i : ℕ) × (i < length t) × ((row_at t i).on ≡ true)) → (i : ℕ) × (i < length (r ∷ t)) × ((row_at (r ∷ t) i).on ≡ true)
+    go true q more = (0, omega arith, q)
+    go false q more = let z = more (rw q at e) in (suc z.0, omega (arith, z.1), z.2)

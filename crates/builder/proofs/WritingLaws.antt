@@ -9,14 +9,15 @@ use native.Mathlib.Omega.{arith}
 use lib.Dec.{eqb}
 use lib.ListN.{length, take, drop, length-append, length-drop}
 use lib.Seq.{take_all, length-take-le}
-use borrow.Author.Tests.{eq-eqb, ne_eqb, eqb-false}
+use borrow.Author.Tests.{eq-eqb, ne_eqb}
 use Rattle.tree.specs.Tree.{union, difference, sign, Basic, plus, minus, operator_of, Tree, is_group, postfix}
 use Rattle.tree.specs.InnerWriting.{Wrote}
 use Rattle.tree.proofs.TreeLaws.{postfix_length, size_positive}
 use Rattle.tree.proofs.WritingLaws.{wrote_then, wrote_as, wrote_take}
 use Rattle.forms.specs.declared.Form.{Form}
 use Rattle.forms.specs.declared.Form.TheVariants.{Drop, Less, Plus, ReducedPlus, JoinedLess, LessOutside, ReducedUnion, JoinedDifference}
-use Rattle.builder.specs.InnerBuilding.{postfix_optional, size_optional, join, left_tree, right_tree, outer, formed, variable_tree, without, most_formed, between, variable_list, joined_by, right_kind, left_written, ends_there, before_written, after_written}
+use Rattle.splits.specs.InnerSplits.{is_drop}
+use Rattle.builder.specs.InnerBuilding.{postfix_optional, size_optional, join, left_tree, right_tree, outer, formed, variable_tree, without, most_formed, between, variable_list, joined_by, left_written, ends_there, before_written, after_written}
 use Rattle.builder.proofs.JoinLaws.{single_leaf}
 
 -- ---- no tree or a tree
@@ -108,10 +109,10 @@ module _ (t : Tree) where
   left_written_lem JoinedDifference a from at e = joined_written plus a from at e
 
   -- what is written before and after b makes it the right operand
-  right_written : (form : Form) (b : Option Tree) (left middle to : ℕ) → (right_kind form ≡ 0 → ⊥) → middle ≡ left + length (before_written form (postfix t))
+  right_written : (form : Form) (b : Option Tree) (left middle to : ℕ) → is_drop form ≡ false → middle ≡ left + length (before_written form (postfix t))
       → to ≡ middle + length (postfix_optional b)
       → before_written form (postfix t) ++ (postfix_optional b ++ after_written form left middle to (postfix t)) ≡ postfix_optional (right_tree form (some t) b)
-  right_written Drop b left middle to n p q = absurd (n refl)
+  right_written Drop b left middle to n p q = absurd (false≢true (sym n))
   right_written Less b left middle to n p q = less_written b left middle to p q
   right_written Plus b left middle to n p q = less_written b left middle to p q
   right_written ReducedPlus b left middle to n p q = less_written b left middle to p q
@@ -141,11 +142,11 @@ or_false : (a b : Bool) → a || b ≡ false → (a ≡ false) × (b ≡ false)
 or_false true b e = absurd (false≢true (sym e))
 or_false false b e = (refl, e)
 
-goes_on_lem : (form : Form) (e : Bool) → ends_there form e ≡ false → (eqb (right_kind form) 0 ≡ false) × (e && eqb (sign (operator_of (outer form))) (sign difference) ≡ false)
-goes_on_lem form e = or_false (eqb (right_kind form) 0) (e && eqb (sign (operator_of (outer form))) (sign difference))
+goes_on_lem : (form : Form) (e : Bool) → ends_there form e ≡ false → (is_drop form ≡ false) × (e && eqb (sign (operator_of (outer form))) (sign difference) ≡ false)
+goes_on_lem form e = or_false (is_drop form) (e && eqb (sign (operator_of (outer form))) (sign difference))
 
-pub has_right : (form : Form) (e : Bool) → ends_there form e ≡ false → right_kind form ≡ 0 → ⊥
-has_right form e h = eqb-false (right_kind form) 0 (goes_on_lem form e h).0
+pub has_right : (form : Form) (e : Bool) → ends_there form e ≡ false → is_drop form ≡ false
+has_right form e h = (goes_on_lem form e h).0
 
 pub plus_none : (a : Option Tree) → join plus a none ≡ a
 plus_none none = refl
@@ -221,9 +222,9 @@ left_room LessOutside e xs a b = omega arith
 left_room ReducedUnion e xs a b = omega (arith, joined_short (sign difference) e xs)
 left_room JoinedDifference e xs a b = omega (arith, joined_short (sign union) e xs)
 
-pub whole_room : (form : Form) (e : Bool) (xs : List ℕ) (a b left middle to : ℕ) → (right_kind form ≡ 0 → ⊥)
+pub whole_room : (form : Form) (e : Bool) (xs : List ℕ) (a b left middle to : ℕ) → is_drop form ≡ false
     → a + length (left_written form e xs) + length (before_written form xs) + b + length (after_written form left middle to xs) + 1 ≤ most_formed form (length xs) a b
-whole_room Drop e xs a b left middle to n = absurd (n refl)
+whole_room Drop e xs a b left middle to n = absurd (false≢true (sym n))
 whole_room Less e xs a b left middle to n = omega (arith, between_short left middle to (sign difference))
 whole_room Plus e xs a b left middle to n = omega (arith, between_short left middle to (sign difference))
 whole_room ReducedPlus e xs a b left middle to n = omega (arith, between_short left middle to (sign difference), joined_short (sign difference) e xs)

@@ -5,10 +5,10 @@ use Rattle.std.proofs.Math.Option.{Option, some, none}
 use Rattle.tree.specs.Tree.{union, difference, sign, Basic, plus, minus, operator_of, Tree, leaf, node, is_group, postfix, size, is_in, most_groups}
 use Rattle.tree.specs.Pass.{Entry, group, operator, neither, entry_of}
 use Rattle.tree.specs.InnerWriting.{Wrote}
-use Rattle.free_tables.specs.InnerTables.{Table, table_of, half, row_at, first_part, second_part, usable, Holds}
+use Rattle.free_tables.specs.InnerTables.{Table, half, row_at, first_part, second_part, usable}
 use Rattle.forms.specs.declared.Form.{Form}
 use Rattle.forms.specs.declared.Form.TheVariants.{Drop, Less, Plus, ReducedPlus, JoinedLess, LessOutside, ReducedUnion, JoinedDifference}
-use Rattle.splits.specs.InnerSplits.{can_hold, first_holder, second_holder, split_taken, choose}
+use Rattle.splits.specs.InnerSplits.{is_drop, can_hold, first_holder, second_holder, split_taken, choose}
 use Rattle.splits.specs.declared.Holder.{Holder}
 use Rattle.splits.specs.declared.Holder.TheVariants.{Absent, Dropped, Held}
 use Rattle.splits.specs.declared.Split.{Split}
@@ -130,44 +130,41 @@ variable_list hs x = cond (eqb x 0) hs (x ∷ [])
 abbrev pub joined_by : ℕ → Bool → List ℕ → List ℕ
 joined_by s empty xs = cond empty (cond (eqb s (sign difference)) [] xs) (xs ++ (s ∷ []))
 
--- the operator by which x is joined to a; 0 where the left operand is a alone
-abbrev pub left_sign : Form → ℕ
-left_sign Drop = 0
-left_sign Less = 0
-left_sign Plus = 0
-left_sign ReducedPlus = sign difference
-left_sign JoinedLess = sign union
-left_sign LessOutside = 0
-left_sign ReducedUnion = sign difference
-left_sign JoinedDifference = sign union
-
--- the right operand: 0 there is none; 1 x without b; 2 b without x; 3 b alone
-abbrev pub right_kind : Form → ℕ
-right_kind Drop = 0
-right_kind Less = 1
-right_kind Plus = 1
-right_kind ReducedPlus = 1
-right_kind JoinedLess = 1
-right_kind LessOutside = 2
-right_kind ReducedUnion = 3
-right_kind JoinedDifference = 3
-
 -- after a: what makes it the left operand
 abbrev pub left_written : Form → Bool → List ℕ → List ℕ
-left_written form empty xs = cond (eqb (left_sign form) 0) [] (joined_by (left_sign form) empty xs)
+left_written Drop empty xs = []
+left_written Less empty xs = []
+left_written Plus empty xs = []
+left_written ReducedPlus empty xs = joined_by (sign difference) empty xs
+left_written JoinedLess empty xs = joined_by (sign union) empty xs
+left_written LessOutside empty xs = []
+left_written ReducedUnion empty xs = joined_by (sign difference) empty xs
+left_written JoinedDifference empty xs = joined_by (sign union) empty xs
 
 -- whether the tree ends with the left operand, which may be empty
 abbrev pub ends_there : Form → Bool → Bool
-ends_there form empty = eqb (right_kind form) 0 || (empty && eqb (sign (operator_of (outer form))) (sign difference))
+ends_there form empty = is_drop form || (empty && eqb (sign (operator_of (outer form))) (sign difference))
 
 -- before b, which stands from `middle` to `to`, and after it: what makes it the right operand, which stands from `left` on
 abbrev pub before_written : Form → List ℕ → List ℕ
-before_written form xs = cond (eqb (right_kind form) 1) xs []
+before_written Drop xs = []
+before_written Less xs = xs
+before_written Plus xs = xs
+before_written ReducedPlus xs = xs
+before_written JoinedLess xs = xs
+before_written LessOutside xs = []
+before_written ReducedUnion xs = []
+before_written JoinedDifference xs = []
 
 abbrev pub after_written : Form → ℕ → ℕ → ℕ → List ℕ → List ℕ
-after_written form left middle to xs =
-    cond (eqb (right_kind form) 1) (between left middle to (sign difference))
-    (cond (eqb (right_kind form) 2) (joined_by (sign difference) (eqb middle to) xs) [])
+after_written Drop left middle to xs = []
+after_written Less left middle to xs = between left middle to (sign difference)
+after_written Plus left middle to xs = between left middle to (sign difference)
+after_written ReducedPlus left middle to xs = between left middle to (sign difference)
+after_written JoinedLess left middle to xs = between left middle to (sign difference)
+after_written LessOutside left middle to xs = joined_by (sign difference) (eqb middle to) xs
+after_written ReducedUnion left middle to xs = []
+after_written JoinedDifference left middle to xs = []
 
 -- ---- what the functions say of each other
 -- the variables: groups, and where the holder is one of them, it is the last
@@ -184,8 +181,7 @@ HolderReady Held t = can_hold t ≡ true
 
 -- a table over these variables that a tree can be built for; no tree selects anything at row 0
 pub record Buildable (m : Holder) (t : Table) (gs : List ℕ) : Type 0 where
-  pub rows : length t.on ≡ 2 ^ length gs
-  pub same : length t.off ≡ length t.on
+  pub rows : length t ≡ 2 ^ length gs
   pub first : (row_at t 0).on ≡ false
   pub consistent : (i : ℕ) → ((row_at t i).on && (row_at t i).off) ≡ false
   pub variables : Variables m gs
@@ -198,7 +194,7 @@ pub record Ready (m : Holder) (t : Table) (gs : List ℕ) : Type 0 where
 
 -- the first `count` rows of a part are the table t, and k becomes of the holder in its tree
 pub record IsPart (p : Part) (count : ℕ) (t : Table) (k : Holder) : Type 0 where
-  pub rows : Holds p.rows count t
+  pub rows : take count p.rows ≡ t
   pub holder : p.holder ≡ k
 
 -- the split that is taken at a table over n variables and one more
@@ -224,6 +220,6 @@ abbrev pub Holding : Holder → List ℕ → Type 0
 Holding m hs = (h : Option Tree) × (hs ≡ postfix_optional h) × HolderTree m h
 
 -- the tree of a table was written, whichever tree the holder's list is of
-pub record Built (m : Holder) (on off : List Bool) (gs hs out : List ℕ) (at : ℕ) (out' : List ℕ) (next : ℕ) : Type 0 where
+pub record Built (m : Holder) (t : Table) (gs hs out : List ℕ) (at : ℕ) (out' : List ℕ) (next : ℕ) : Type 0 where
   pub wrote : (h : Option Tree) → hs ≡ postfix_optional h → HolderTree m h
-      → Wrote out at out' next (postfix_optional (build choose (length gs) m (table_of on off) gs h))
+      → Wrote out at out' next (postfix_optional (build choose (length gs) m t gs h))

@@ -4,71 +4,50 @@
 ghost use Rattle.std.specs.Prelude.{◌≡◌, [], ◌∷◌, suc, ◌+◌, ◌-◌, ◌<◌, ◌≤◌, eqb, length, take};
 ghost use Rattle.tree.specs.Tree.{sign, operator_of, most_groups};
 ghost use Rattle.tree.specs.InnerWriting.{Wrote};
-ghost use Rattle.free_tables.specs.InnerTables.{table_of};
-ghost use Rattle.builder.specs.InnerBuilding.{outer, without, most_for, Ready, Turned, Holding, Built, between, variable_list, joined_by, left_sign, right_kind, left_written, ends_there, before_written, after_written};
+ghost use Rattle.builder.specs.InnerBuilding.{outer, without, most_for, Ready, Turned, Holding, Built, between, variable_list, joined_by, left_written, ends_there, before_written, after_written};
 
-use forms::Form;
-use free_tables::Half;
-use splits::Holder;
+use forms::{Form, Row};
+use free_tables::{HALF_ROWS, Parts};
+use splits::{Holder, Split};
 use tree::MOST_GROUPS;
 
 // ---- writing
-
-// Writes three numbers at an index, and returns the index after them.
-pub fn put3(out: &mut [u16], at: usize, x: u16, y: u16, z: u16) -> usize
-    requires { at + 3 ≤ length out.old }
-    ensures { Wrote out.old at out.new result (x ∷ y ∷ z ∷ []) }
-{
-    let a = tree::write_one(x, out, at);
-    let b = tree::write_one(y, out, a);
-    tree::write_one(z, out, b)
-}
 
 // Writes an operator after its operands, which stand from `from` and from `middle` on; nothing where one of them is empty.
 pub fn operate(out: &mut [u16], from: usize, middle: usize, to: usize, operator: u16) -> usize
     requires { to + 1 ≤ length out.old }
     ensures { Wrote out.old to out.new result (between from middle to operator) }
 {
-    if from == middle {
-        return to;
-    }
-    if middle == to {
+    if from == middle || middle == to {
         return to;
     }
     tree::write_one(operator, out, to)
 }
 
-// Writes a variable's tree: the holder's, whose list is `holder`, where x is 0, else the group x.
-fn write_leaf(x: u16, holder: &[u16], out: &mut [u16], at: usize) -> usize
-    requires { at + length (variable_list holder.now x) ≤ length out.old }
-    ensures { Wrote out.old at out.new result (variable_list holder.now x) }
+// The list of a variable's tree: the holder's where x is 0, else the group x.
+fn variable_list<'a>(x: &'a u16, holder: &'a [u16]) -> &'a [u16]
+    ensures { result.now ≡ variable_list holder.now x.now }
 {
-    if x == 0 {
-        return tree::copy(holder, out, at);
+    if *x == 0 {
+        holder
+    } else {
+        std::slice::from_ref(x)
     }
-    tree::write_one(x, out, at)
 }
 
-// Joins a variable's tree to the one that stands from `from` to `at`, and may be empty.
-fn write_joined(
-    operator: u16,
-    x: u16,
-    holder: &[u16],
-    out: &mut [u16],
-    from: usize,
-    at: usize,
-) -> usize
-    requires { at + length (joined_by operator (eqb from at) (variable_list holder.now x)) ≤ length out.old }
-    ensures { Wrote out.old at out.new result (joined_by operator (eqb from at) (variable_list holder.now x)) }
+// Joins a variable's tree, whose list is `xs`, to the one that stands from `from` to `at`, and may be empty.
+fn write_joined(operator: u16, xs: &[u16], out: &mut [u16], from: usize, at: usize) -> usize
+    requires { at + length (joined_by operator (eqb from at) xs.now) ≤ length out.old }
+    ensures { Wrote out.old at out.new result (joined_by operator (eqb from at) xs.now) }
 {
-    if from == at {
-        if operator == tree::DIFFERENCE {
-            return at;
-        }
-        return write_leaf(x, holder, out, at);
+    if from != at {
+        let next = tree::copy(xs, out, at);
+        tree::write_one(operator, out, next)
+    } else if operator == tree::DIFFERENCE {
+        at
+    } else {
+        tree::copy(xs, out, at)
     }
-    let next = write_leaf(x, holder, out, at);
-    tree::write_one(operator, out, next)
 }
 
 // ---- the forms
@@ -78,103 +57,61 @@ fn outer(form: Form) -> u16
     ensures { result ≡ sign (operator_of (outer form)) }
 {
     match form {
-        Form::Drop => tree::UNION,
-        Form::Less => tree::DIFFERENCE,
-        Form::Plus => tree::UNION,
-        Form::ReducedPlus => tree::UNION,
-        Form::JoinedLess => tree::DIFFERENCE,
-        Form::LessOutside => tree::DIFFERENCE,
-        Form::ReducedUnion => tree::UNION,
-        Form::JoinedDifference => tree::DIFFERENCE,
-    }
-}
-
-// The operator by which x is joined to a; 0 where the left operand is a alone.
-fn left_sign(form: Form) -> u16
-    ensures { result ≡ left_sign form }
-{
-    match form {
-        Form::Drop => 0,
-        Form::Less => 0,
-        Form::Plus => 0,
-        Form::ReducedPlus => tree::DIFFERENCE,
-        Form::JoinedLess => tree::UNION,
-        Form::LessOutside => 0,
-        Form::ReducedUnion => tree::DIFFERENCE,
-        Form::JoinedDifference => tree::UNION,
-    }
-}
-
-// The right operand: 0 there is none; 1 x without b; 2 b without x; 3 b alone.
-fn right_kind(form: Form) -> u8
-    ensures { result ≡ right_kind form }
-{
-    match form {
-        Form::Drop => 0,
-        Form::Less => 1,
-        Form::Plus => 1,
-        Form::ReducedPlus => 1,
-        Form::JoinedLess => 1,
-        Form::LessOutside => 2,
-        Form::ReducedUnion => 3,
-        Form::JoinedDifference => 3,
+        Form::Drop | Form::Plus | Form::ReducedPlus | Form::ReducedUnion => tree::UNION,
+        Form::Less | Form::JoinedLess | Form::LessOutside | Form::JoinedDifference =>
+            tree::DIFFERENCE,
     }
 }
 
 // Makes a, which stands from `from` to `at`, the left operand.
-fn write_left(form: Form, x: u16, holder: &[u16], out: &mut [u16], from: usize, at: usize) -> usize
-    requires { at + length (left_written form (eqb from at) (variable_list holder.now x)) ≤ length out.old }
-    ensures { Wrote out.old at out.new result (left_written form (eqb from at) (variable_list holder.now x)) }
+fn write_left(form: Form, xs: &[u16], out: &mut [u16], from: usize, at: usize) -> usize
+    requires { at + length (left_written form (eqb from at) xs.now) ≤ length out.old }
+    ensures { Wrote out.old at out.new result (left_written form (eqb from at) xs.now) }
 {
-    let operator = left_sign(form);
-    if operator == 0 {
-        return at;
+    match form {
+        Form::Drop | Form::Less | Form::Plus | Form::LessOutside => at,
+        Form::ReducedPlus | Form::ReducedUnion => write_joined(tree::DIFFERENCE, xs, out, from, at),
+        Form::JoinedLess | Form::JoinedDifference => write_joined(tree::UNION, xs, out, from, at),
     }
-    write_joined(operator, x, holder, out, from, at)
 }
 
 // Whether the tree ends with the left operand, which may be empty.
 fn ends_there(form: Form, empty: bool) -> bool
     ensures { result ≡ ends_there form empty }
 {
-    let kind = right_kind(form);
-    let last = outer(form);
-    (kind == 0) | (empty & (last == tree::DIFFERENCE))
+    form == Form::Drop || empty && outer(form) == tree::DIFFERENCE
 }
 
 // Writes what the right operand has before b.
-fn write_before(form: Form, x: u16, holder: &[u16], out: &mut [u16], at: usize) -> usize
-    requires { at + length (before_written form (variable_list holder.now x)) ≤ length out.old }
-    ensures { Wrote out.old at out.new result (before_written form (variable_list holder.now x)) }
+fn write_before(form: Form, xs: &[u16], out: &mut [u16], at: usize) -> usize
+    requires { at + length (before_written form xs.now) ≤ length out.old }
+    ensures { Wrote out.old at out.new result (before_written form xs.now) }
 {
-    let kind = right_kind(form);
-    if kind == 1 {
-        return write_leaf(x, holder, out, at);
+    match form {
+        Form::Less | Form::Plus | Form::ReducedPlus | Form::JoinedLess => tree::copy(xs, out, at),
+        Form::Drop | Form::LessOutside | Form::ReducedUnion | Form::JoinedDifference => at,
     }
-    at
 }
 
 // Makes b, which stands from `middle` to `to`, the right operand, which stands from `left` on.
 fn write_after(
     form: Form,
-    x: u16,
-    holder: &[u16],
+    xs: &[u16],
     out: &mut [u16],
     left: usize,
     middle: usize,
     to: usize,
 ) -> usize
-    requires { to + length (after_written form left middle to (variable_list holder.now x)) + 1 ≤ length out.old }
-    ensures { Wrote out.old to out.new result (after_written form left middle to (variable_list holder.now x)) }
+    requires { to + length (after_written form left middle to xs.now) + 1 ≤ length out.old }
+    ensures { Wrote out.old to out.new result (after_written form left middle to xs.now) }
 {
-    let kind = right_kind(form);
-    if kind == 1 {
-        return operate(out, left, middle, to, tree::DIFFERENCE);
+    match form {
+        Form::Less | Form::Plus | Form::ReducedPlus | Form::JoinedLess => {
+            operate(out, left, middle, to, tree::DIFFERENCE)
+        }
+        Form::LessOutside => write_joined(tree::DIFFERENCE, xs, out, middle, to),
+        Form::Drop | Form::ReducedUnion | Form::JoinedDifference => to,
     }
-    if kind == 2 {
-        return write_joined(tree::DIFFERENCE, x, holder, out, middle, to);
-    }
-    to
 }
 
 // ---- the variables
@@ -193,14 +130,14 @@ fn without(groups: &[u16], v: usize) -> [u16; MOST_GROUPS]
 // ---- the tree of a table
 
 // A part of a table: its rows, and what becomes of the holder in its tree.
-#[derive(Drop)]
+#[derive(Clone, Copy)]
 struct Part {
-    rows: Half,
+    rows: [Row; HALF_ROWS],
     holder: Holder,
 }
 
 // A split of a table: its form, its variable x and the other variables, and the parts a and b.
-#[derive(Drop)]
+#[derive(Clone, Copy)]
 struct Turn {
     form: Form,
     x: u16,
@@ -210,22 +147,21 @@ struct Turn {
 }
 
 // The split that is taken at a table over n variables and one more.
-fn turn_of(on: &[bool], off: &[bool], m: Holder, groups: &[u16], n: usize) -> Turn
-    requires { Ready m (table_of on.now off.now) groups.now × (length groups.now ≡ suc n) }
-    ensures { Turned m (table_of on.now off.now) groups.now n result }
+fn turn_of(table: &[Row], m: Holder, groups: &[u16], n: usize) -> Turn
+    requires { Ready m table.now groups.now × (length groups.now ≡ suc n) }
+    ensures { Turned m table.now groups.now n result }
 {
-    let split = splits::split_taken(on, off, n, m);
-    let form = split.form;
-    let v = split.variable;
-    let plan = split.plan;
-    let power = free_tables::power(v);
-    let parts = free_tables::split(on, off, power, form);
-    let first = parts.first;
-    let second = parts.second;
+    let Split {
+        form,
+        variable,
+        plan,
+    } = splits::split_taken(table, n, m);
+    let Parts { first, second } = free_tables::split(table, free_tables::power(variable), form);
+    let rest = without(groups, variable);
     Turn {
         form,
-        x: groups[v],
-        rest: without(groups, v),
+        x: groups[variable],
+        rest,
         a: Part {
             rows: first,
             holder: splits::first_holder(plan),
@@ -237,65 +173,45 @@ fn turn_of(on: &[bool], off: &[bool], m: Holder, groups: &[u16], n: usize) -> Tu
     }
 }
 
-// Writes the tree of a table over the variables `groups`, where 0 stands for the holder, whose list is `holder`.
+// Writes the tree of a table over the variables `groups`, where 0 stands for the holder, whose list is `holder`. (The parameters stay
+// apart: a struct of table, m and groups is made anew for each call, and its fields are all that is used of it: no plainer.)
 pub fn build(
-    on: &[bool],
-    off: &[bool],
+    table: &[Row],
     m: Holder,
     groups: &[u16],
     holder: &[u16],
     out: &mut [u16],
     at: usize,
 ) -> usize
-    requires ready { Ready m (table_of on.now off.now) groups.now }
+    requires ready { Ready m table.now groups.now }
     requires holding { Holding m holder.now }
     requires holder_in_bounds { at + most_for m (length groups.now) (length holder.now) ≤ length out.old }
-    ensures { Built m on.now off.now groups.now holder.now out.old at out.new result }
+    ensures { Built m table.now groups.now holder.now out.old at out.new result }
 {
     let k = groups.len();
     if k == 0 {
         return at;
     }
     let n = k - 1;
-    let count = on.len() / 2;
-    let turn = turn_of(on, off, m, groups, n);
+    let count = table.len() / 2;
+    let turn = turn_of(table, m, groups, n);
     let form = turn.form;
-    let x = turn.x;
-    let rest = turn.rest;
-    let first = turn.a;
-    let a_rows = first.rows;
-    let a_on = a_rows.on;
-    let a_off = a_rows.off;
-    let a_holder = first.holder;
-    let a = build(
-        &a_on[..count],
-        &a_off[..count],
-        a_holder,
-        &rest[..n],
-        holder,
-        out,
-        at,
-    );
-    let left = write_left(form, x, holder, out, at, a);
-    let stops = ends_there(form, at == left);
-    if stops {
+    let xs = variable_list(&turn.x, holder);
+    let rest = &turn.rest[..n];
+    let a = build(&turn.a.rows[..count], turn.a.holder, rest, holder, out, at);
+    let left = write_left(form, xs, out, at, a);
+    if ends_there(form, at == left) {
         return left;
     }
-    let middle = write_before(form, x, holder, out, left);
-    let second = turn.b;
-    let b_rows = second.rows;
-    let b_on = b_rows.on;
-    let b_off = b_rows.off;
-    let b_holder = second.holder;
+    let middle = write_before(form, xs, out, left);
     let b = build(
-        &b_on[..count],
-        &b_off[..count],
-        b_holder,
-        &rest[..n],
+        &turn.b.rows[..count],
+        turn.b.holder,
+        rest,
         holder,
         out,
         middle,
     );
-    let right = write_after(form, x, holder, out, left, middle, b);
+    let right = write_after(form, xs, out, left, middle, b);
     operate(out, at, left, right, outer(form))
 }

@@ -18,9 +18,8 @@ use Rattle.moves.proofs.MoveLaws.{ours_right}
 use Rattle.move_table.specs.Loading as table
 use Rattle.move_table.proofs.SchoolLaws.{loaded_right}
 use Rattle.player.specs.Limits.{byte_count}
-use Rattle.player.specs.Playing.{wrong_length, wrong_pair_count, wrong_patch, patch_fault, played_says}
+use Rattle.player.specs.Playing.{wrong_length, wrong_pair_count, wrong_patch, patch_fault, Played, played_says}
 use Rattle.player.proofs.PlayingLaws.{length_right, length_fits}
-use Rattle.player.specs.declared.Played.{Played}
 use Rattle.older_player.specs.Instructions.{Instruction, load, change, show, lights, numbers, numbers_of}
 use Rattle.older_player.specs.Playing.{most_instructions, wrong_code, play_fault, Plays}
 use Rattle.older_player.specs.Codes.{IsCode}
@@ -38,7 +37,8 @@ use Rattle.code.proofs.Theorems.{code_names, thirteen_suffice}
 use Rattle.code.proofs.NewerLaws.{newer_acts, code_is}
 use Rattle.code.proofs.OlderLaws.{older_acts, older_selects, older_length}
 use Rattle.coder.specs.Coding.{encode_fault, coded_says}
-use Rattle.coder.specs.declared.Coded.{Coded}
+use Rattle.coder.specs.declared.Refusal.{Refusal}
+use Rattle.std.proofs.Common.{Result}
 use Rattle.coder.proofs.CodingLaws.{encodes_tree}
 use Rattle.older_coder.specs.Coding.{least_buffer, Encodes}
 use Rattle.printing.specs.Key.{LiftAnswer, Held, Key, refusal, answers, older_row, text}
@@ -128,7 +128,7 @@ module _ (code patch lamps : List ℕ) (long : byte_count ≤ length lamps) (r :
       exactly_then (says_23 n) (not_exactly (wrong_code code) (right_exactly code long_enough.0 long_enough.2))
 
 -- ---- the coder
-module _ (tree out : List ℕ) (r : Coded) (after : List ℕ) (E : Encodes tree out r after) where
+module _ (tree out : List ℕ) (r : Result ℕ Refusal) (after : List ℕ) (E : Encodes tree out r after) where
   follows_20 : Exactly (coded_says r ≡ refused_with 20) (length out < 32768)
   follows_20 = exactly_then (by_fault (coded_says r) (encode_fault least_buffer tree out) _ 20 E.says (λ z. omega arith)) record {
     only = λ e. ltb-true (length out) least_buffer (first_20 (ltb (length out) least_buffer) (is_some (tree_of tree)) e);

@@ -14,8 +14,7 @@ use Rattle.printing.specs.declared.Device.{Device}
 use Rattle.key.specs.Devices.{InstructionOf}
 use Rattle.key.specs.Demand.{Demand3}
 use Rattle.key.proofs.DemandLaws.{some_mark}
-use Rattle.marking.specs.Marking.{mark, marking_says, Marks}
-use Rattle.marking.specs.declared.Marking.{Marking}
+use Rattle.marking.specs.Marking.{Marking, mark, marking_says, Marks}
 use Rattle.marking.proofs.Theorems.{right_exactly, right_typed, cannot_be_right}
 
 -- a sheet that reading accepts, its tree, and what its key by a table says

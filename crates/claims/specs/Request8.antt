@@ -1,5 +1,5 @@
 -- Request 8 of document 02, "Key for the older player", sentence by sentence.
-use Rattle.std.specs.Prelude.{◌≡◌, Bool, true, false, List, [], ◌∷◌, ◌++◌, ℕ, ◌+◌, ◌*◌, ◌%◌, ◌≤◌, ◌<◌, T, length, get_or, drop, replicate}
+use Rattle.std.specs.Prelude.{◌≡◌, Bool, true, false, List, [], ◌∷◌, ◌++◌, ℕ, ◌+◌, ◌*◌, ◌%◌, ◌≤◌, ◌<◌, T, length, get_or, drop, replicate, Result}
 use Rattle.std.proofs.Math.Option.{Option, some, none}
 use Rattle.common.specs.Answer.{done, refused_with}
 use Rattle.common.specs.Exactly.{Exactly}
@@ -10,8 +10,7 @@ use Rattle.moves.specs.Moves.{MoveTable, ours}
 use Rattle.move_table.specs.Loading.{loading}
 use Rattle.player.specs.Limits.{register_count, byte_count}
 use Rattle.player.specs.Instructions.{Rig, Registers, Operation, combined, put}
-use Rattle.player.specs.Playing.{wrong_length, played_says}
-use Rattle.player.specs.declared.Played.{Played}
+use Rattle.player.specs.Playing.{wrong_length, Played, played_says}
 use Rattle.older_player.specs.Instructions.{Instruction, load, change, show, lights, lit_lamps, numbers, numbers_of}
 use Rattle.older_player.specs.Playing.{most_instructions, Plays}
 use Rattle.older_player.specs.Codes.{IsCode}
@@ -24,7 +23,7 @@ use Rattle.code.specs.Devices.{PartCode, part_code, code_on, newer_player, older
 use Rattle.code.specs.Effects.{Effect, newer_effect, older_effect, Every, Names}
 use Rattle.code.specs.Acts.{Acts}
 use Rattle.coder.specs.Coding.{coded_says}
-use Rattle.coder.specs.declared.Coded.{Coded}
+use Rattle.coder.specs.declared.Refusal.{Refusal}
 use Rattle.older_coder.specs.Coding.{least_buffer, Encodes}
 use Rattle.printing.specs.Key.{LiftAnswer, Held, Key, answers, older_row, text}
 use Rattle.printing.specs.declared.Device.{Device}
@@ -33,7 +32,7 @@ use Rattle.key.specs.Devices.{InstructionOf, row_for}
 use Rattle.key.specs.Demand.{Demand3}
 use Rattle.key.specs.Call.{key_bytes, KeyOf, KeyWith, KeyCall}
 use Rattle.key.specs.Alike.{Alike, SameLines}
-use Rattle.key.specs.declared.KeyAnswer.{KeyAnswer}
+use Rattle.key.specs.declared.ShortBuffer.{ShortBuffer}
 
 -- the keys that a device's program may print of a sheet, given the bytes of a school's table or none
 abbrev pub KeyGiven : (d : Device) → Option (List ℕ) → (sheet : List ℕ) → Key (InstructionOf d) → Type 0
@@ -55,7 +54,7 @@ pub record Request8 : Type 1 where
   pub changed : (rig : Rig) (o : Operation) (first second : ℕ) (is : List Instruction) (R : Registers)
       → lights rig (change o first second ∷ is) R ≡ lights rig is (put R first (combined o (R first) (R second)))
   -- "A second coder makes code for it from the same trees,": whatever its `encode` answers and leaves
-  pub coded : (tree out : List ℕ) (t : Tree) → tree_of tree ≡ some t → least_buffer ≤ length out → (r : Coded) (after : List ℕ) → Encodes tree out r after
+  pub coded : (tree out : List ℕ) (t : Tree) → tree_of tree ≡ some t → least_buffer ≤ length out → (r : Result ℕ Refusal) (after : List ℕ) → Encodes tree out r after
       → (coded_says r ≡ done ((size t + 1) ∷ [])) × (after ≡ over (numbers_of (code_on older_player t)) out)
   -- "and a last line SHOW names the register with the answer."
   pub shown : (t : Tree) → (own : List Instruction) × (register : ℕ) × (code_on older_player t ≡ own ++ (show register ∷ []))
@@ -70,7 +69,7 @@ pub record Request8 : Type 1 where
   pub up_to : (t : Tree) → size t ≤ most_nodes
       → (length (code_on older_player t) ≡ size t + 1) × (length (code_on older_player t) ≤ 8192) × (length (numbers_of (code_on older_player t)) ≤ 32768)
   -- "and 20 and 22 follow that."
-  pub follows_20 : (tree out : List ℕ) (r : Coded) (after : List ℕ) → Encodes tree out r after → Exactly (coded_says r ≡ refused_with 20) (length out < 32768)
+  pub follows_20 : (tree out : List ℕ) (r : Result ℕ Refusal) (after : List ℕ) → Encodes tree out r after → Exactly (coded_says r ≡ refused_with 20) (length out < 32768)
   pub follows_22 : (code patch lamps : List ℕ) → byte_count ≤ length lamps → (r : Played) (after : List ℕ) → Plays code patch lamps r after
       → Exactly (played_says r ≡ refused_with 22) ((1 ≤ length code) × (length code ≤ 4 * 8192) × (length code % 4 ≡ 0) → ⊥)
   -- "Nodes come in 01's order, a leaf into the lowest register where no operand waits;": while operands wait where w says
@@ -100,7 +99,7 @@ pub record Request8 : Type 1 where
   pub both_act : Acts newer_player newer_effect × Acts older_player older_effect
   pub newer_code_lem : (t : Tree) → code_on newer_player t ≡ code t 0
   -- Demand 3 with this device: what the call writes for an accepted sheet, by any table
-  pub demand_3 : (m : MoveTable) (sheet out : List ℕ) (st : ReadingState) (r : KeyAnswer) (out' : List ℕ) → reading sheet ≡ accepted st → key_bytes ≤ length out
+  pub demand_3 : (m : MoveTable) (sheet out : List ℕ) (st : ReadingState) (r : Result ℕ ShortBuffer) (out' : List ℕ) → reading sheet ≡ accepted st → key_bytes ≤ length out
       → KeyCall Older (KeyOf Older m (reading sheet)) out r out'
       → (t : Tree) × (tree_of st.entries ≡ some t) × ((lifts : List LiftAnswer) × (held : Held) × (is : List Instruction)
       × Demand3 Older m t st.marks st.lifts lifts held is × (out' ≡ over (text (row_for Older) (answers lifts held is)) out))

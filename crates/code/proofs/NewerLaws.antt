@@ -16,9 +16,8 @@ use Rattle.player.specs.Limits.{register_count, byte_count}
 use Rattle.player.specs.Instructions.{Registers, both, Instruction, load, operate, empty, run, lit_lamps, numbers_of}
 use Rattle.player.specs.Patches.{rig}
 use Rattle.player.specs.Bytes.{bytes}
-use Rattle.player.specs.Playing.{wrong_pair_count, wrong_patch, fault_by, play_fault, Plays}
-use Rattle.player.specs.declared.Played.{Played}
-use Rattle.player.specs.declared.Played.TheVariants.{Done}
+use Rattle.player.specs.Playing.{wrong_pair_count, wrong_patch, fault_by, play_fault, Played, Plays}
+use Rattle.std.specs.Prelude.{Ok}
 use Rattle.player.proofs.InstructionLaws.{AllWellFormed, numbers_length, instructions_numbers}
 use Rattle.player.proofs.PlayingLaws.{numbers_fault, plays_done}
 use Rattle.code.specs.Need.{left_first, in_order}
@@ -141,7 +140,7 @@ module _ (t : Tree) (h : size t ≤ most_nodes) (patch lamps : List ℕ) where
       numbers_fault (code t 0) (omega (arith, size_positive t, length_code t 0)) (omega (arith, length_code t 0)) patch lamps (code_well_formed t h)
 
   pub record PlaysAs (r : Played) (after : List ℕ) : Type 0 where
-    pub done : r ≡ Done
+    pub done : r ≡ Ok tt
     pub lit : after ≡ bytes (selected (rig patch) t) ++ drop byte_count lamps
 
   pub code_lights : byte_count ≤ length lamps → wrong_pair_count (length patch) ≡ false → wrong_patch patch ≡ false

@@ -12,8 +12,7 @@ use Rattle.tree.proofs.GroupLaws.{over_is_group}
 use Rattle.player.specs.Limits.{register_count, byte_count}
 use Rattle.player.specs.Instructions as newer
 use Rattle.player.specs.Patches.{rig}
-use Rattle.player.specs.Playing.{wrong_pair_count, wrong_patch, fault_by}
-use Rattle.player.specs.declared.Played.{Played}
+use Rattle.player.specs.Playing.{wrong_pair_count, wrong_patch, fault_by, Played}
 use Rattle.player.proofs.PlayingLaws.{plays_done}
 use Rattle.older_player.specs.Instructions.{Instruction, load, change, show, lights, lit_lamps, numbers_of}
 use Rattle.older_player.specs.Playing.{play_fault, Plays}

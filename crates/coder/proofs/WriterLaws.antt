@@ -16,7 +16,8 @@ use Rattle.player.specs.Instructions.{load_kind, kind_of, numbers_of}
 use Rattle.player.proofs.InstructionLaws.{numbers_append}
 use Rattle.code.specs.Need.{need, left_first}
 use Rattle.code.proofs.NeedLaws.{first, second, need_node, need_positive}
-use Rattle.notes.specs.InnerNotes.{NodeAt, HasChildren, ChildrenInOrder}
+use Rattle.notes.specs.declared.Note.{Note}
+use Rattle.notes.specs.InnerNotes.{NodeAt, Noted, HasChildren, ChildrenInOrder}
 use Rattle.notes.proofs.NoteLaws.{as_leaf, node_inside, split, node_one, node_two, below_one, below_two, left_came}
 use Rattle.coder.specs.InnerNotes.{Writable}
 use Rattle.code.specs.Code.{operation, code}
@@ -43,50 +44,49 @@ module _ (l : List ℕ) (e k : ℕ) where
   writes_leaf lt w a v = let z = as_leaf a v lt in wrote_as w (sym (ap (λ (t : Tree). numbers_of (code t k)) z.1 ∙ numbers_leaf _ z.0 k))
 
 -- what the two calls for the children ask, and the operator's own instruction
-pub record Ready (l s n : List ℕ) (e k : ℕ) (out : List ℕ) (at one two : ℕ) : Type 0 where
+pub record Ready (l : List ℕ) (e k : ℕ) (out : List ℕ) (at one two : ℕ) : Type 0 where
   pub less_one : one < e
   pub less_two : two < e
-  pub first_call : Writable l s n one k out at
-  pub second_call : (out₁ : List ℕ) (next : ℕ) → Writes l one k out at out₁ next → Writable l s n two (k + 1) out₁ next
+  pub first_call : Writable l one k out at
+  pub second_call : (out₁ : List ℕ) (next : ℕ) → Writes l one k out at out₁ next → Writable l two (k + 1) out₁ next
   pub own_room : (out₁ out₂ : List ℕ) (next last : ℕ) → Writes l one k out at out₁ next → Writes l two (k + 1) out₁ next out₂ last → last + 4 ≤ length out₂
 
-module _ {l s n : List ℕ} {e k : ℕ} {out : List ℕ} {at : ℕ} (W : Writable l s n e k out at) where
+module _ {l : List ℕ} {e k : ℕ} {out : List ℕ} {at : ℕ} (W : Writable l e k out at) where
   pub end_inside : e < length l
   end_inside = node_inside W.root
 
   pub leaf_room : at + 4 ≤ length out
   leaf_room = omega (arith, W.room, size_positive W.part)
 
-  module _ (le : sign union ≤ get_or l e 0) where
-    pub inner_node : HasChildren s e × (k + 1 < register_count)
+  module _ {n : List Note} (N : Noted l n) (le : sign union ≤ get_or l e 0) where
+    pub inner_node : HasChildren n e × (k + 1 < register_count)
     inner_node = go W.part W.root W.registers
       where
-        go : (a : Tree) → NodeAt l e a → k + need a ≤ register_count → HasChildren s e × (k + 1 < register_count)
+        go : (a : Tree) → NodeAt l e a → k + need a ≤ register_count → HasChildren n e × (k + 1 < register_count)
         go (leaf g h) v r = absurd (omega (arith, part_leaf e v.is, group_most g h))
         go (node o x y) v r = (
-          (split v W.noted.all (omega (arith, end_inside))).inner (omega (arith, end_inside, W.noted.few)),
+          (split v N.all (omega (arith, end_inside))).inner (omega (arith, end_inside, N.few)),
           omega (arith, need_node o x y, need_positive (second x y)),
         )
 
-    pub ready : {one two : ℕ} {f : Bool} → ChildrenInOrder s n e one two f → Ready l s n e k out at one two
+    pub ready : {one two : ℕ} {f : Bool} → ChildrenInOrder n e one two f → Ready l e k out at one two
     ready {one} {two} {f} O = go W.part W.root W.registers W.room
       where
-        go : (a : Tree) → NodeAt l e a → k + need a ≤ register_count → at + 4 * size a ≤ length out → Ready l s n e k out at one two
+        go : (a : Tree) → NodeAt l e a → k + need a ≤ register_count → at + 4 * size a ≤ length out → Ready l e k out at one two
         go (leaf g h) v r q = absurd (omega (arith, part_leaf e v.is, group_most g h))
         go (node o x y) v r q =
-            let S = split v W.noted.all (omega (arith, end_inside)) in
-            let N = need_node o x y in
+            let S = split v N.all (omega (arith, end_inside)) in
+            let node_need = need_node o x y in
             let Z = size_node o x y in
             let u = node_one S O in
             let w = node_two S O in
             record {
               less_one = below_one S O;
               less_two = below_two S O;
-              first_call = record { part = first x y; root = u; noted = W.noted; registers = omega arith; room = omega arith };
+              first_call = record { part = first x y; root = u; registers = omega arith; room = omega arith };
               second_call = λ out₁ next c. let d = c (first x y) u in record {
                 part = second x y;
                 root = w;
-                noted = W.noted;
                 registers = omega arith;
                 room = omega (arith, d.ends, d.same, length_numbers (first x y) k);
               };
@@ -96,12 +96,12 @@ module _ {l s n : List ℕ} {e k : ℕ} {out : List ℕ} {at : ℕ} (W : Writabl
                   omega (arith, f.ends, f.same, g.ends, g.same, length_numbers (first x y) k, length_numbers (second x y) (k + 1));
             }
 
-    pub writes_node : {one two a b kind next last after : ℕ} {f : Bool} {out₁ out₂ out₃ : List ℕ} → ChildrenInOrder s n e one two f → a ≡ cond f k (k + 1) → b ≡ cond f (k + 1) k
+    pub writes_node : {one two a b kind next last after : ℕ} {f : Bool} {out₁ out₂ out₃ : List ℕ} → ChildrenInOrder n e one two f → a ≡ cond f k (k + 1) → b ≡ cond f (k + 1) k
         → Writes l one k out at out₁ next → Writes l two (k + 1) out₁ next out₂ last
         → ((o : Operator) → get_or l e 0 ≡ sign o → kind ≡ kind_of (operation o)) → Wrote out₂ last out₃ after (kind ∷ k ∷ a ∷ b ∷ [])
         → Writes l e k out at out₃ after
     writes_node O α β c d K p (leaf g h) v = absurd (omega (arith, part_leaf e v.is, group_most g h))
     writes_node {one} {two} {a} {b} {kind} O α β c d K p (node o x y) v =
-        let S = split v W.noted.all (omega (arith, end_inside)) in
+        let S = split v N.all (omega (arith, end_inside)) in
         wrote_as (wrote_then (wrote_then (c (first x y) (node_one S O)) (d (second x y) (node_two S O))) p)
         (rw (K o (part_node e v.is)) (numbers_node o x y k a b (α ∙ rw (left_came S O)) (β ∙ rw (left_came S O))))

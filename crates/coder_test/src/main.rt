@@ -5,21 +5,12 @@
 use code_cases::BEFORE;
 use std::io;
 
-fn show(rt: &impl Print, label: &[u8], tree: &[u16], out: &mut [u16]) -> io::Result<()> {
-    let answer = coder::encode(tree, out);
-    code_cases::report(rt, label, answer, out)
-}
-
-// A case in a buffer of 32,770 numbers.
 fn case(rt: &impl Print, label: &[u8], tree: &[u16]) -> io::Result<()> {
-    show(rt, label, tree, &mut [BEFORE; 32770])
+    code_cases::case(rt, coder::encode, label, tree)
 }
 
-// A tree of 8,191 nodes.
-fn large(rt: &impl Print, label: &[u8], shape: u8) -> io::Result<()> {
-    let mut tree = [0u16; 8191];
-    code_cases::fill(shape, &mut tree);
-    case(rt, label, &tree)
+fn show(rt: &impl Print, label: &[u8], tree: &[u16], out: &mut [u16]) -> io::Result<()> {
+    code_cases::show(rt, coder::encode, label, tree, out)
 }
 
 // The run of the node at a position, as first+count.
@@ -42,7 +33,7 @@ fn print_runs(rt: &impl Print, tree: &[u16]) -> io::Result<()> {
 fn example(rt: &impl Print) -> io::Result<()> {
     let tree = code_cases::EXAMPLE;
     let mut out = [BEFORE; 32764];
-    coder::encode(&tree, &mut out);
+    let _ = coder::encode(&tree, &mut out);
     code_cases::print_numbers(rt, b"numbers:", &out)?;
     rt.write_all(b"runs:")?;
     print_runs(rt, &tree)?;
@@ -66,29 +57,12 @@ fn buffers(rt: &impl Print) -> io::Result<()> {
     show(rt, b"32,763 numbers and no tree", &[], &mut [BEFORE; 32763])
 }
 
-// 12.
-fn no_trees(rt: &impl Print) -> io::Result<()> {
-    case(rt, b"no entry", &[])?;
-    case(rt, b"an operand missing", &[7, tree::UNION])?;
-    case(rt, b"two trees", &[7, 8])?;
-    case(rt, b"group 0", &[0])?;
-    case(rt, b"group 60001", &[60001])
-}
-
-fn too_long(rt: &impl Print) -> io::Result<()> {
-    let mut tree = [0u16; 8193];
-    code_cases::fill(code_cases::CHAIN_TO_THE_LEFT, &mut tree);
-    case(rt, b"a chain of 8,193 nodes", &tree)
-}
-
 fn main(rt: HostRuntime) -> io::Result<()> {
     example(&rt)?;
     intersections(&rt)?;
     case(&rt, b"a leaf", &[60000])?;
-    large(&rt, b"complete", code_cases::COMPLETE)?;
-    large(&rt, b"chain to the left", code_cases::CHAIN_TO_THE_LEFT)?;
-    large(&rt, b"chain to the right", code_cases::CHAIN_TO_THE_RIGHT)?;
+    code_cases::large_trees(&rt, coder::encode)?;
     buffers(&rt)?;
-    no_trees(&rt)?;
-    too_long(&rt)
+    code_cases::no_trees(&rt, coder::encode)?;
+    code_cases::too_long(&rt, coder::encode)
 }

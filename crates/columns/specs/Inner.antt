@@ -1,16 +1,14 @@
 -- What the functions ask and promise. No caller has to believe any of this.
-use Rattle.std.specs.Prelude.{◌≡◌, Bool, true, not, List, [], ◌∷◌, ◌++◌, ℕ, ◌+◌, ◌*◌, ◌^◌, ◌<◌, ◌≤◌, length, take}
+use Rattle.std.specs.Prelude.{Some, None, ◌≡◌, Bool, true, List, [], ◌∷◌, ◌++◌, ℕ, ◌+◌, ◌*◌, ◌^◌, ◌<◌, ◌≤◌, length}
 use Rattle.std.proofs.Math.Option.{some}
-use Rattle.tree.specs.Tree.{Tree, is_group, is_in}
-use Rattle.table.specs.InnerTable.{row_count, tabulate, rows_of}
-use Rattle.free_tables.specs.InnerTables.{Table, table_of}
-use Rattle.splits.specs.declared.Holder.{Holder}
+use Rattle.tree.specs.Tree.{Tree, is_group, is_in, most_groups}
+use Rattle.table.specs.InnerTable.{row_count, rows_of}
 use Rattle.splits.specs.declared.Holder.TheVariants.{Absent, Held}
-use Rattle.builder.specs.InnerBuilding.{postfix_optional, most_built, Ready, Built}
+use Rattle.builder.specs.InnerBuilding.{postfix_optional, most_built, Ready}
 use Rattle.columns.specs.InnerJoining.{first_rows, column_table, held_table, holder_tree, columns_tree, constant_tree}
-use Rattle.columns.specs.declared.Rows.{Rows}
-use Rattle.columns.specs.declared.Choice.{Choice}
-use Rattle.columns.specs.declared.Choice.TheVariants.{Never, Constant, Columns}
+use Rattle.columns.specs.InnerChoosing.{Allowed, failing}
+use Rattle.columns.specs.declared.Scan.{Scan}
+use Rattle.columns.specs.declared.Choice.TheVariants.{Constant, Columns}
 
 -- the rows that a scan reads: columns of w rows, `low` and `high` rows of a column, a column at `start`
 pub record Scanned (w total low high start : ℕ) : Type 0 where
@@ -21,18 +19,12 @@ pub record Scanned (w total low high start : ℕ) : Type 0 where
   pub high_below : high < w
   pub inside : start + w ≤ total
 
--- the first `count` rows of two arrays are an exact table
-pub record HasRows (r : Rows) (count : ℕ) (f : ℕ → Bool) : Type 0 where
-  pub on : take count r.on ≡ tabulate f count 0
-  pub off : take count r.off ≡ tabulate (λ i. not (f i)) count 0
+abbrev pub ScannedBy : Scan → Type 0
+ScannedBy s = Scanned s.w s.total s.low s.high s.start
 
--- the table in them
-abbrev pub table_from : Rows → ℕ → Table
-table_from r count = table_of (take count r.on) (take count r.off)
-
--- the tree of such a table was written from the front on
-abbrev pub BuiltFrom : Holder → Rows → ℕ → List ℕ → List ℕ → List ℕ → List ℕ → ℕ → Type 0
-BuiltFrom m r count gs hs out out' next = Built m (take count r.on) (take count r.off) gs hs out 0 out' next
+-- the first of the rows that does not agree
+abbrev pub failing_by : (ℕ → Bool) → Scan → ℕ
+failing_by T s = failing T s.w s.total s.low s.high s.start
 
 -- the trees' lists, by the array of a table's rows
 abbrev pub constant_list : List Bool → List ℕ → List ℕ → List ℕ
@@ -41,11 +33,9 @@ constant_list t ms us = postfix_optional (constant_tree (rows_of t) ms us)
 abbrev pub columns_list : List Bool → List ℕ → List ℕ → ℕ → ℕ → List ℕ
 columns_list t ms us p start = postfix_optional (columns_tree (rows_of t) ms us p start)
 
--- w rows in each of `columns` columns, and room for the trees
-pub record Room (ms us : List ℕ) (w columns room : ℕ) : Type 0 where
-  pub width : w ≡ 2 ^ length ms
-  pub count : columns ≡ 2 ^ length us
-  pub most : w * columns ≤ row_count
+-- as many groups as a table has, and room for the trees
+pub record Room (ms us : List ℕ) (room : ℕ) : Type 0 where
+  pub few : length ms + length us ≤ most_groups
   pub some_mark : 0 < length ms
   pub space : 2 * most_built (length us) + most_built (length ms) + 5 ≤ room
 
@@ -61,7 +51,7 @@ pub record ConstantReady (T : ℕ → Bool) (ms us : List ℕ) : Type 0 where
   pub mark_groups : (g : ℕ) → is_in ms g ≡ true → is_group g ≡ true
   pub table : Ready Absent (first_rows T ms us) us
 
-abbrev pub ReadyFor : (ℕ → Bool) → List ℕ → List ℕ → Choice → Type 0
-ReadyFor T ms us Never = Unit {0}
-ReadyFor T ms us Constant = ConstantReady T ms us
-ReadyFor T ms us (Columns low high start) = ColumnsReady T ms us (low + high) start
+abbrev pub ReadyFor : (ℕ → Bool) → List ℕ → List ℕ → Allowed → Type 0
+ReadyFor T ms us None = Unit {0}
+ReadyFor T ms us (Some Constant) = ConstantReady T ms us
+ReadyFor T ms us (Some (Columns low high start)) = ColumnsReady T ms us (low + high) start

@@ -1,20 +1,25 @@
 -- The gathered tree, by the columns of a truth table over the marked groups and the others: w = 2 ^ marks rows make a column.
 -- No caller has to believe any of this: that it is gathered and what it selects is proved in `gather` proofs/.
-use Rattle.std.specs.Prelude.{Bool, not, cond, List, [], ◌∷◌, ◌++◌, ℕ, suc, ◌+◌, ◌-◌, ◌*◌, ◌^◌, ltb, length, get_or}
+use Rattle.std.specs.Prelude.{Some, None, Bool, not, cond, List, [], ◌∷◌, ◌++◌, ℕ, suc, ◌+◌, ◌-◌, ◌*◌, ◌^◌, ltb, length, get_or}
 use Rattle.std.specs.Bool.{beq}
 use Rattle.std.proofs.Math.Option.{Option, none}
 use Rattle.tree.specs.Tree.{plus, minus, Tree}
 use Rattle.table.specs.InnerTable.{tabulate}
+use Rattle.forms.specs.declared.Row.{Row}
 use Rattle.free_tables.specs.InnerTables.{Table}
 use Rattle.splits.specs.InnerSplits.{choose}
 use Rattle.splits.specs.declared.Holder.TheVariants.{Absent, Held}
 use Rattle.builder.specs.InnerBuilding.{join, single, build}
-use Rattle.columns.specs.declared.Choice.{Choice}
-use Rattle.columns.specs.declared.Choice.TheVariants.{Never, Constant, Columns}
+use Rattle.columns.specs.InnerChoosing.{Allowed}
+use Rattle.columns.specs.declared.Choice.TheVariants.{Constant, Columns}
+
+-- a row that is not free
+abbrev pub exact_row : Bool → Row
+exact_row b = record { on = b; off = not b }
 
 -- a table of so many rows, none of them free
 abbrev pub exact_table : (ℕ → Bool) → ℕ → Table
-exact_table f count = record { on = tabulate f count 0; off = tabulate (λ i. not (f i)) count 0 }
+exact_table f count = tabulate (λ i. exact_row (f i)) count 0
 
 abbrev pub differs : Bool → Bool → Bool
 differs a b = not (beq a b)
@@ -47,7 +52,7 @@ module _ (T : ℕ → Bool) (marks others : List ℕ) where
   constant_tree = join plus (build choose (length others) Absent first_rows others none) (join minus (single (get_or marks 0 0)) (single (get_or marks 0 0)))
 
   -- the tree for a choice; of `low` and `high` one is 0, and the other is the row p
-  abbrev pub tree_for : Choice → Option Tree
-  tree_for Never = none
-  tree_for Constant = constant_tree
-  tree_for (Columns low high start) = columns_tree (low + high) start
+  abbrev pub tree_for : Allowed → Option Tree
+  tree_for None = none
+  tree_for (Some Constant) = constant_tree
+  tree_for (Some (Columns low high start)) = columns_tree (low + high) start

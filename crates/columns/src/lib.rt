@@ -2,25 +2,25 @@
 // others are fixed; a table's rows are its columns one after the other.
 #![tactic(auto)]
 
-ghost use Rattle.std.specs.Prelude.{◌≡◌, [], ◌∷◌, ◌++◌, ◌+◌, ◌-◌, ◌*◌, ◌%◌, ◌^◌, ◌<◌, ◌≤◌, ltb, length, take, cond};
+ghost use Rattle.std.specs.Prelude.{MatchOption, ◌≡◌, [], ◌∷◌, ◌++◌, ◌+◌, ◌-◌, ◌*◌, ◌%◌, ◌^◌, ◌<◌, ◌≤◌, ltb, length, take, cond};
 ghost use Rattle.table.specs.InnerTable.{row_count, rows_of};
 ghost use Rattle.tree.specs.Tree.{most_groups};
 ghost use Rattle.tree.specs.InnerWriting.{Wrote};
-ghost use Rattle.builder.specs.InnerBuilding.{most_for, Ready, Holding};
-ghost use Rattle.columns.specs.InnerChoosing.{agrees, failing, settled, choice};
-ghost use Rattle.columns.specs.InnerJoining.{differs};
-ghost use Rattle.columns.specs.Inner.{Scanned, HasRows, table_from, BuiltFrom, constant_list, columns_list, Room, ColumnsReady, ConstantReady};
+ghost use Rattle.columns.specs.InnerChoosing.{agrees, settled, choice};
+ghost use Rattle.columns.specs.InnerJoining.{differs, exact_row, exact_table};
+ghost use Rattle.columns.specs.Inner.{Scanned, ScannedBy, failing_by, constant_list, columns_list, Room, ColumnsReady, ConstantReady};
 
-use builder::{build, operate, put3};
+use builder::{build, operate};
+use forms::Row;
+use free_tables::power;
 use splits::Holder;
 use table::ROWS;
 use tree::MOST_GROUPS;
 
-// What the columns allow: no tree; the tree for constant columns; the tree by the columns' rows `low` and `high` and the
-// column that starts at row `start`.
-#[derive(Clone, Copy)]
+// The tree that the columns allow, if any: for constant columns; or by the columns' rows `low` and `high` and the column that
+// starts at row `start`.
+#[derive(Clone, Copy, Debug, PartialEq, Eq)]
 pub enum Choice {
-    Never,
     Constant,
     Columns {
         low: usize,
@@ -29,98 +29,105 @@ pub enum Choice {
     },
 }
 
-// Whether the value at row i is that of its column's rows `low` and `high` and of the column at `start`.
-fn agrees_at(t: &[bool; ROWS], w: usize, low: usize, high: usize, start: usize, i: usize) -> bool
-    requires { (0 < w) × (i < row_count) × (i - i % w + low < row_count) × (i - i % w + high < row_count) × (start + i % w < row_count) }
-    ensures { result ≡ agrees (rows_of t.now) w low high start i }
-{
-    let p = i % w;
-    let base = i - p;
-    let always = t[base + low];
-    let sometimes = t[base + high];
-    let held = t[start + p];
-    let here = t[i];
-    here == (always | (sometimes & held))
-}
-
-// The first row that does not agree; `total` if all do.
-fn first_failing(
-    t: &[bool; ROWS],
+// A scan over the first `total` rows of a table, in columns of w rows: by the columns' rows `low` and `high` and the column that
+// starts at row `start`.
+#[derive(Clone, Copy)]
+struct Scan {
     w: usize,
     total: usize,
     low: usize,
     high: usize,
     start: usize,
-) -> usize
-    requires { Scanned w total low high start }
-    ensures { (result ≡ failing (rows_of t.now) w total low high start) × (result ≤ total) }
+}
+
+// Whether the value at row i is that of its column's rows `low` and `high` and of the column at `start`.
+fn agrees_at(t: &[bool; ROWS], scan: Scan, i: usize) -> bool
+    requires { ScannedBy scan × (i < scan.total) }
+    ensures { result ≡ agrees (rows_of t.now) scan.w scan.low scan.high scan.start i }
 {
-    let mut i = 0;
-    while i < total {
-        let good = agrees_at(t, w, low, high, start, i);
-        if good {
-            i += 1;
-        } else {
-            return i;
+    let p = i % scan.w;
+    let base = i - p;
+    let always = t[base + scan.low];
+    let sometimes = t[base + scan.high];
+    let held = t[scan.start + p];
+    let here = t[i];
+    here == (always | (sometimes & held))
+}
+
+// The first row that does not agree, if any.
+fn first_failing(t: &[bool; ROWS], scan: Scan) -> Option<usize>
+    requires { ScannedBy scan }
+    ensures { MatchOption result (failing_by (rows_of t.now) scan ≡ scan.total) (λ i. (i ≡ failing_by (rows_of t.now) scan) × (i < scan.total)) }
+{
+    for i in 0..scan.total {
+        if !agrees_at(t, scan, i) {
+            return Some(i);
         }
     }
-    i
+    None
 }
 
 // With a column that is not constant: every row agrees with it, or no tree is gathered.
-fn settle(t: &[bool; ROWS], w: usize, total: usize, low: usize, high: usize, start: usize) -> Choice
-    requires { Scanned w total low high start }
-    ensures { result ≡ settled (rows_of t.now) w total low high start }
+fn settle(t: &[bool; ROWS], scan: Scan) -> Option<Choice>
+    requires { ScannedBy scan }
+    ensures { result ≡ settled (rows_of t.now) scan.w scan.total scan.low scan.high scan.start }
 {
-    let i = first_failing(t, w, total, low, high, start);
-    if i < total {
-        return Choice::Never;
+    let Scan {
+        low,
+        high,
+        start,
+        ..
+    } = scan;
+    if first_failing(t, scan).is_some() {
+        return None;
     }
-    Choice::Columns { low, high, start }
+    Some(Choice::Columns { low, high, start })
 }
 
 // The columns to build by: the first scan finds a column that is not constant.
-pub fn choose(t: &[bool; ROWS], w: usize, total: usize) -> Choice
+pub fn choose(t: &[bool; ROWS], w: usize, total: usize) -> Option<Choice>
     requires { Scanned w total 0 0 0 }
     ensures { result ≡ choice (rows_of t.now) w total }
 {
-    let i = first_failing(t, w, total, 0, 0, 0);
-    if i < total {
-        let p = i % w;
-        let start = i - p;
-        let value = t[i];
-        if value {
-            return settle(t, w, total, 0, p, start);
-        }
-        return settle(t, w, total, p, 0, start);
+    let mut scan = Scan {
+        w,
+        total,
+        low: 0,
+        high: 0,
+        start: 0,
+    };
+    let Some(i) = first_failing(t, scan) else {
+        return Some(Choice::Constant);
+    };
+    let p = i % w;
+    scan.start = i - p;
+    if t[i] {
+        scan.high = p;
+    } else {
+        scan.low = p;
     }
-    Choice::Constant
+    settle(t, scan)
 }
 
 // ---- the gathered tree
 
-// The rows of an exact table: those that are 1, and those that are 0.
-#[derive(Clone, Copy)]
-pub struct Rows {
-    pub on: [bool; ROWS],
-    pub off: [bool; ROWS],
+// A row that is not free.
+fn exact_row(on: bool) -> Row
+    ensures { result ≡ exact_row on }
+{
+    Row { on, off: !on }
 }
 
 // Where the rows from, from + step, .. of a truth table differ from `base`.
-fn rows_of(t: &[bool; ROWS], base: bool, from: usize, step: usize, count: usize) -> Rows
+fn rows_of(t: &[bool; ROWS], base: bool, from: usize, step: usize, count: usize) -> [Row; ROWS]
     requires { (1 ≤ step) × (from + step * count ≤ row_count) }
-    ensures { HasRows result count (λ i. differs (rows_of t.now (from + step * i)) base) }
+    ensures { take count result ≡ exact_table (λ i. differs (rows_of t.now (from + step * i)) base) count }
 {
-    let mut on = [false; ROWS];
-    let mut off = [false; ROWS];
-    let mut i = 0;
-    while i < count {
-        let x = t[from + step * i];
-        on[i] = x != base;
-        off[i] = x == base;
-        i += 1;
+    let mut rows = [Row::FREE; ROWS];
+    for i in 0..count {
+        rows[i] = exact_row(t[from + step * i] != base);
     }
-    Rows { on, off }
+    rows
 }
 
 // Row i of the table with the holder: of its first half the first row of column i, of its second half row p.
@@ -129,27 +136,22 @@ fn held_place(i: usize, w: usize, columns: usize, p: usize) -> usize
     ensures { (result ≡ cond (ltb i columns) (w * i) (w * (i - columns) + p)) × (result < row_count) }
 {
     if i < columns {
-        return w * i;
+        w * i
+    } else {
+        w * (i - columns) + p
     }
-    w * (i - columns) + p
 }
 
 // The table over the others and the holder.
-fn held_rows(t: &[bool; ROWS], w: usize, columns: usize, p: usize) -> Rows
+fn held_rows(t: &[bool; ROWS], w: usize, columns: usize, p: usize) -> [Row; ROWS]
     requires { (p < w) × (w * columns ≤ row_count) × (2 * columns ≤ row_count) }
-    ensures { HasRows result (2 * columns) (λ i. rows_of t.now (cond (ltb i columns) (w * i) (w * (i - columns) + p))) }
+    ensures { take (2 * columns) result ≡ exact_table (λ i. rows_of t.now (cond (ltb i columns) (w * i) (w * (i - columns) + p))) (2 * columns) }
 {
-    let mut on = [false; ROWS];
-    let mut off = [false; ROWS];
-    let mut i = 0;
-    while i < 2 * columns {
-        let place = held_place(i, w, columns, p);
-        let x = t[place];
-        on[i] = x;
-        off[i] = !x;
-        i += 1;
+    let mut rows = [Row::FREE; ROWS];
+    for i in 0..2 * columns {
+        rows[i] = exact_row(t[held_place(i, w, columns, p)]);
     }
-    Rows { on, off }
+    rows
 }
 
 // The variables: the others, and 0 for the holder.
@@ -163,43 +165,18 @@ fn with_holder(others: &[u16]) -> [u16; MOST_GROUPS]
     variables
 }
 
-// The tree for the first `count` rows, from the front of `out` on.
-fn build_by(
-    rows: Rows,
-    count: usize,
-    m: Holder,
-    groups: &[u16],
-    holder: &[u16],
-    out: &mut [u16],
-) -> usize
-    requires count_value { count ≡ 2 ^ length groups.now }
-    requires ready { Ready m (table_from rows count) groups.now }
-    requires holding { Holding m holder.now }
-    requires holder_in_bounds { most_for m (length groups.now) (length holder.now) ≤ length out.old }
-    ensures { BuiltFrom m rows count groups.now holder.now out.old out.new result }
-{
-    let on = rows.on;
-    let off = rows.off;
-    build(&on[..count], &off[..count], m, groups, holder, out, 0)
-}
-
 // All columns are constant: A U (m - m).
-pub fn build_constant(
-    t: &[bool; ROWS],
-    marks: &[u16],
-    others: &[u16],
-    w: usize,
-    columns: usize,
-    out: &mut [u16],
-) -> usize
-    requires room { Room marks.now others.now w columns (length out.old) }
+pub fn build_constant(t: &[bool; ROWS], marks: &[u16], others: &[u16], out: &mut [u16]) -> usize
+    requires room { Room marks.now others.now (length out.old) }
     requires constant_ready { ConstantReady (rows_of t.now) marks.now others.now }
     ensures { Wrote out.old 0 out.new result (constant_list t.now marks.now others.now) }
 {
+    let w = power(marks.len());
+    let columns = power(others.len());
     let rows = rows_of(t, false, 0, w, columns);
-    let a = build_by(rows, columns, Holder::Absent, others, &others[..0], out);
+    let a = build(&rows[..columns], Holder::Absent, others, &[], out, 0);
     let m = marks[0];
-    let h = put3(out, a, m, m, tree::DIFFERENCE);
+    let h = tree::copy(&[m, m, tree::DIFFERENCE], out, a);
     operate(out, 0, a, h, tree::UNION)
 }
 
@@ -211,29 +188,27 @@ pub fn build_columns(
     t: &[bool; ROWS],
     marks: &[u16],
     others: &[u16],
-    w: usize,
-    columns: usize,
     p: usize,
     start: usize,
     out: &mut [u16],
 ) -> usize
-    requires room { Room marks.now others.now w columns (length out.old) }
+    requires room { Room marks.now others.now (length out.old) }
     requires columns_ready { ColumnsReady (rows_of t.now) marks.now others.now p start }
     ensures { Wrote out.old 0 out.new result (columns_list t.now marks.now others.now p start) }
 {
+    let w = power(marks.len());
+    let columns = power(others.len());
+    let column = rows_of(t, t[start], start, 1, w);
     let mut holder = [0; HOLDER_NODES];
-    let base = t[start];
-    let column = rows_of(t, base, start, 1, w);
-    let nodes = build_by(column, w, Holder::Absent, marks, &marks[..0], &mut holder);
+    let nodes = build(&column[..w], Holder::Absent, marks, &[], &mut holder, 0);
     let variables = with_holder(others);
-    let count = others.len() + 1;
     let rows = held_rows(t, w, columns, p);
-    build_by(
-        rows,
-        2 * columns,
+    build(
+        &rows[..2 * columns],
         Holder::Held,
-        &variables[..count],
+        &variables[..others.len() + 1],
         &holder[..nodes],
         out,
+        0,
     )
 }

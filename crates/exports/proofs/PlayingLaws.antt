@@ -7,8 +7,7 @@ use borrow.Author.Tests.{eqb-true}
 use lib.Dec.{eqb}
 use Rattle.common.specs.Answer.{done, refused_with, answer_by}
 use Rattle.player.specs.Instructions.{Lamps}
-use Rattle.player.specs.Playing.{played_says, PlaysBy}
-use Rattle.player.specs.declared.Played.{Played}
+use Rattle.player.specs.Playing.{Played, played_says, PlaysBy}
 use Rattle.exports.specs.Storing.{answer_number, PlayCall}
 
 number_by : (fault : ℕ) → answer_number (answer_by fault []) ≡ fault

@@ -9,8 +9,7 @@ use Rattle.move_table.specs.Packing.{empty}
 use Rattle.move_table.specs.declared.LoadedTable.{LoadedTable}
 use Rattle.lift.specs.Lift.{Result}
 use Rattle.lift.specs.Answer.{result_says, lift_buffer}
-use Rattle.gather.specs.Answer.{gathering_says, Gathers}
-use Rattle.gather.specs.declared.Gathering.{Gathering}
+use Rattle.gather.specs.Answer.{Gathering, gathering_says, Gathers}
 use Rattle.coder.specs.Coding.{encode_fault, code_of_list, buffer_after}
 use Rattle.questions.specs.Answer.{tree_at, value_or30, in_array}
 use Rattle.player.specs.Instructions.{Lamps}

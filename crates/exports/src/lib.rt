@@ -22,12 +22,9 @@ ghost use Rattle.older_player.specs.Playing as older-player;
 ghost use Rattle.questions.specs.Answer.{reply_says, index_of, value_or30};
 ghost use Rattle.exports.specs.Storing.{answer_number, with_answer, table_from, LiftCall, GatherCall, EncodeCall, PlayCall, TreeCall};
 
-use coder::Coded;
-use gather::Gathering;
 use lift::Lifted;
 use move_table::LoadedTable;
-use player::Played;
-use questions::Reply;
+use player::Refusal;
 
 // Stores a number of an answer, where the array has that place.
 fn store(answer: &mut [u32], i: usize, value: usize)
@@ -49,16 +46,12 @@ fn store_all(answer: &mut [u32], number: usize, a: usize, b: usize, c: usize)
 }
 
 // Stores a lift's answer: number, length, position, looks.
-fn store_lift(lifted: Lifted, answer: &mut [u32])
+fn store_lift(lifted: Result<Lifted, lift::Refusal>, answer: &mut [u32])
     ensures { answer.new ≡ with_answer (lifted_says lifted) answer.old }
 {
     match lifted {
-        Lifted::Done {
-            nodes,
-            position,
-            looks,
-        } => store_all(answer, 0, nodes, position, looks),
-        Lifted::Refused(number) => store_all(answer, number as usize, 0, 0, 0),
+        Ok(done) => store_all(answer, 0, done.nodes, done.position, done.looks),
+        Err(refusal) => store_all(answer, usize::from(u16::from(refusal)), 0, 0, 0),
     }
 }
 
@@ -84,8 +77,8 @@ fn table_from(signs: &[u8], lengths: &[u8]) -> LoadedTable
     let mut rows = [0u8; move_table::SIGNS];
     let mut counts = [0u8; 36];
     if (signs.len() == move_table::SIGNS) & (lengths.len() == 36) {
-        text::put_bytes(signs, &mut rows, 0);
-        text::put_bytes(lengths, &mut counts, 0);
+        tree::copy(signs, &mut rows, 0);
+        tree::copy(lengths, &mut counts, 0);
         return LoadedTable {
             signs: rows,
             lengths: counts,
@@ -121,20 +114,19 @@ pub extern "C" fn lift_with_call(
 pub extern "C" fn gather_call(tree: &[u16], marks: &[u16], out: &mut [u16], answer: &mut [u32])
     ensures { GatherCall tree.now marks.now out.old out.new answer.old answer.new }
 {
-    let gathered = gather::gather(tree, marks, out);
-    match gathered {
-        Gathering::Done { nodes, holder } => store_all(answer, 0, nodes, holder, 0),
-        Gathering::Refused(number) => store_all(answer, number as usize, 0, 0, 0),
+    match gather::gather(tree, marks, out) {
+        Ok(gathered) => store_all(answer, 0, gathered.nodes, gathered.holder, 0),
+        Err(refusal) => store_all(answer, u16::from(refusal) as usize, 0, 0, 0),
     }
 }
 
 // Stores a coder's answer: number, count of instructions.
-fn store_coded(coded: Coded, answer: &mut [u32])
+fn store_coded(coded: Result<usize, coder::Refusal>, answer: &mut [u32])
     ensures { answer.new ≡ with_answer (coded_says coded) answer.old }
 {
     match coded {
-        Coded::Done(count) => store_all(answer, 0, count, 0, 0),
-        Coded::Refused(number) => store_all(answer, number as usize, 0, 0, 0),
+        Ok(count) => store_all(answer, 0, count, 0, 0),
+        Err(refusal) => store_all(answer, usize::from(u16::from(refusal)), 0, 0, 0),
     }
 }
 
@@ -143,8 +135,7 @@ fn store_coded(coded: Coded, answer: &mut [u32])
 pub extern "C" fn encode_call(tree: &[u16], out: &mut [u16], answer: &mut [u32])
     ensures { EncodeCall newer-coder.least_buffer (λ t. code t 0) newer.numbers_of tree.now out.old out.new answer.old answer.new }
 {
-    let coded = coder::encode(tree, out);
-    store_coded(coded, answer);
+    store_coded(coder::encode(tree, out), answer);
 }
 
 // The same for the older player.
@@ -152,18 +143,14 @@ pub extern "C" fn encode_call(tree: &[u16], out: &mut [u16], answer: &mut [u32])
 pub extern "C" fn older_encode_call(tree: &[u16], out: &mut [u16], answer: &mut [u32])
     ensures { EncodeCall older-coder.least_buffer (code_on older_player) older.numbers_of tree.now out.old out.new answer.old answer.new }
 {
-    let coded = older_coder::encode(tree, out);
-    store_coded(coded, answer);
+    store_coded(older_coder::encode(tree, out), answer);
 }
 
 // The number of a player's answer.
-fn number_of(played: Played) -> u16
+fn number_of(played: Result<(), Refusal>) -> u16
     ensures { result ≡ answer_number (played_says played) }
 {
-    match played {
-        Played::Done => 0,
-        Played::Refused(number) => number,
-    }
+    played.err().map_or(0, u16::from)
 }
 
 // The number.
@@ -199,20 +186,18 @@ fn store_entry(out: &mut [u16], i: usize, x: u16)
 fn store_list(list: &[u16], out: &mut [u16])
     ensures { out.new ≡ sets out.old 0 list.now }
 {
-    let mut i = 0;
-    while i < list.len() {
-        store_entry(out, i, list[i]);
-        i += 1;
+    for (i, x) in list.iter().enumerate() {
+        store_entry(out, i, *x);
     }
 }
 
 // Stores the answer of a call of `questions`: number, count of entries or index.
-fn store_reply(reply: Reply, answer: &mut [u32])
+fn store_reply(reply: Result<usize, questions::Refusal>, answer: &mut [u32])
     ensures { answer.new ≡ with_answer (reply_says reply) answer.old }
 {
     match reply {
-        Reply::Done(value) => store_all(answer, 0, value, 0, 0),
-        Reply::Refused(number) => store_all(answer, number as usize, 0, 0, 0),
+        Ok(value) => store_all(answer, 0, value, 0, 0),
+        Err(refusal) => store_all(answer, u16::from(refusal) as usize, 0, 0, 0),
     }
 }
 
@@ -221,11 +206,16 @@ fn store_reply(reply: Reply, answer: &mut [u32])
 pub extern "C" fn tree_at_call(index: usize, entries: &mut [u16], answer: &mut [u32])
     ensures { TreeCall index entries.old entries.new answer.old answer.new }
 {
-    let question = questions::tree_at(index);
-    let list = question.entries;
-    store_list(&list, entries);
-    let reply = question.reply;
-    store_reply(reply, answer);
+    match questions::tree_at(index) {
+        Ok(question) => {
+            store_list(&question.entries, entries);
+            store_reply(Ok(question.count), answer);
+        }
+        Err(refusal) => {
+            store_list(&[0; questions::MOST_ENTRIES], entries);
+            store_reply(Err(refusal), answer);
+        }
+    }
 }
 
 // Number, index.

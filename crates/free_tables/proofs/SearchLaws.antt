@@ -1,13 +1,13 @@
 -- The first number that fails a test: what it is, and one turn of a loop that looks for it.
 use mathlib.Core.Path.{◌≡◌, refl, sym, ap, subst, ◌∙◌}
-use mathlib.Core.Bool.{Bool, true, false, cond, true≢false}
+use mathlib.Core.Bool.{Bool, true, false, not, cond, true≢false}
 use mathlib.Core.Logic.{⊎_elim}
 use Prim.Native.Nat.{ℕ, zero, suc, ◌+◌, ◌-◌, ◌<◌, ◌≤◌}
 use native.Mathlib.Nat.{eq-or-lt_of_le}
 use native.Mathlib.Omega.{arith}
 use native.Mathlib.Numerals.{add-one}
 use lib.Dec.{eqb}
-use borrow.Author.Tests.{eqb-true, eqb-false}
+use borrow.Author.Tests.{eqb-true, eqb-false, not-true}
 use Rattle.free_tables.specs.InnerSearch.{first_failing, all_pass}
 
 pub record Fails (f : ℕ → Bool) (k i j : ℕ) : Type 0 where
@@ -71,3 +71,10 @@ pass_all f k h = go (eqb (first_failing f k 0) k) refl
     go : (b : Bool) → eqb (first_failing f k 0) k ≡ b → b ≡ true
     go true e = refl
     go false e = let z = some_fails f k e in absurd (true≢false (sym (h z.0 z.1) ∙ z.2))
+
+pub fail_one : (f : ℕ → Bool) (k i : ℕ) → i < k → f i ≡ false → all_pass f k ≡ false
+fail_one f k i h e = not-true (all_pass f k) (go (all_pass f k) refl)
+  where
+    go : (b : Bool) → all_pass f k ≡ b → not b ≡ true
+    go true q = absurd (true≢false (sym (all_pass_lem f k q i h) ∙ e))
+    go false q = refl

@@ -1,5 +1,6 @@
 -- What a choice means. If every row agrees with A ∪ (B ∩ h), the tree built is equivalent and gathered; if a row does not, its
 -- column and the chosen one are different and neither is constant, which gives the five fillings.
+use Rattle.std.specs.Prelude.{Some, None}
 use mathlib.Core.Path.{◌≡◌, refl, sym, ap, ap₂, subst, ◌∙◌}
 use mathlib.Core.Bool.{Bool, true, false, not, cond, beq, ◌&&◌, ◌||◌, true≢false}
 use mathlib.Core.Logic.{◌⊎◌, inl, inr}
@@ -26,14 +27,13 @@ use Rattle.builder.proofs.BuildLaws.{group_over, build_over, build_some}
 use Rattle.columns.proofs.ColumnLaws.{plus_not, row_column, tree_for_plain}
 use Rattle.columns.specs.InnerJoining.{differs, column_table, held_table, first_rows, holder_tree, columns_tree, constant_tree, tree_for}
 use Rattle.splits.specs.declared.Holder.TheVariants.{Absent, Held}
-use Rattle.columns.specs.InnerChoosing.{agrees, failing, settled, chosen_at, choice}
-use Rattle.columns.specs.declared.Choice.{Choice}
-use Rattle.columns.specs.declared.Choice.TheVariants.{Never, Constant, Columns}
+use Rattle.columns.specs.InnerChoosing.{Allowed, agrees, failing, settled, chosen_at, choice}
+use Rattle.columns.specs.declared.Choice.TheVariants.{Constant, Columns}
 use Rattle.gather.specs.Gathering.{Gathered}
 use Rattle.gather.proofs.Criterion.{mixed, FiveFillings}
 use Rattle.gather.specs.Inner.{MarkedParts}
 use Rattle.gather.proofs.GatheringLaws.{gathered_whole}
-use Rattle.gather.proofs.HeldLaws.{GatheredSome, Some, join_right, Others, plain_over, held_gathered}
+use Rattle.gather.proofs.HeldLaws.{GatheredSome, join_right, Others, plain_over, held_gathered}
 use Rattle.gather.proofs.JoiningLaws.{plain_buildable, plain_selects, plain_some_on, falls_held, rises_held, held_buildable, held_selects}
 
 -- ---- rows of columns of w rows
@@ -63,13 +63,13 @@ pub record ColumnTables (Ta : ℕ → Bool) (ms us : List ℕ) (p start : ℕ) :
   pub held : Buildable Held (held_table Ta ms us p) (us ++ (0 ∷ []))
   pub holder : (h : Tree) × (holder_tree Ta ms us start ≡ some h)
 
-abbrev pub Tables : (ℕ → Bool) → List ℕ → List ℕ → Choice → Type 0
-Tables Ta ms us Never = Unit {0}
-Tables Ta ms us Constant = Buildable Absent (first_rows Ta ms us) us
-Tables Ta ms us (Columns low high start) = ColumnTables Ta ms us (low + high) start
+abbrev pub Tables : (ℕ → Bool) → List ℕ → List ℕ → Allowed → Type 0
+Tables Ta ms us None = Unit {0}
+Tables Ta ms us (Some Constant) = Buildable Absent (first_rows Ta ms us) us
+Tables Ta ms us (Some (Columns low high start)) = ColumnTables Ta ms us (low + high) start
 
 -- what a tree built by a choice is
-pub record Result (m Ta : ℕ → Bool) (ms us : List ℕ) (t : Tree) (c : Choice) : Type 0 where
+pub record Result (m Ta : ℕ → Bool) (ms us : List ℕ) (t : Tree) (c : Allowed) : Type 0 where
   pub tree : Tree
   pub is : tree_for Ta ms us c ≡ some tree
   pub equivalent : Equivalent t tree
@@ -79,10 +79,10 @@ pub record Result (m Ta : ℕ → Bool) (ms us : List ℕ) (t : Tree) (c : Choic
   pub plain : WithoutIntersection tree
   pub tables : Tables Ta ms us c
 
-abbrev pub Verdict : (ℕ → Bool) → (ℕ → Bool) → List ℕ → List ℕ → Tree → Choice → Type 0
-Verdict m Ta ms us t Never = FiveFillings m t
-Verdict m Ta ms us t Constant = Result m Ta ms us t Constant
-Verdict m Ta ms us t (Columns low high start) = Result m Ta ms us t (Columns low high start)
+abbrev pub Verdict : (ℕ → Bool) → (ℕ → Bool) → List ℕ → List ℕ → Tree → Allowed → Type 0
+Verdict m Ta ms us t None = FiveFillings m t
+Verdict m Ta ms us t (Some Constant) = Result m Ta ms us t (Some Constant)
+Verdict m Ta ms us t (Some (Columns low high start)) = Result m Ta ms us t (Some (Columns low high start))
 
 nothing : (x : Bool) → x && not x ≡ false
 nothing true = refl
@@ -201,7 +201,7 @@ module _ (Ta : ℕ → Bool) (ms us : List ℕ) {m : ℕ → Bool} (parts : Mark
       held_ready : Buildable Held (held_table Ta ms us (low + high)) (us ++ (0 ∷ []))
       held_ready = held_buildable Ta ms us (low + high) parts.other_groups c.zero_row can
 
-      holder_some : Some (holder_tree Ta ms us start)
+      holder_some : (h : Tree) × (holder_tree Ta ms us start ≡ some h)
       unfolding holder_tree
       holder_some = build_some none choose column_ready parts.marks (plain_some_on (λ j. differs (Ta (start + j)) (Ta start)) (2 ^ length ms) (low + high) row_inside row_varies)
 
@@ -246,14 +246,14 @@ module _ (Ta : ℕ → Bool) (ms us : List ℕ) {m : ℕ → Bool} (parts : Mark
           ∙ column_value (row_of v ms) (row_of v us) (row_below v ms) (row_below v us)
           ∙ sym (selects_place v)
 
-      built : Result m Ta ms us t (Columns low high start)
+      built : Result m Ta ms us t (Some (Columns low high start))
       built = record {
         tree = columns_gathered.tree;
         is = columns_gathered.is;
         position = columns_gathered.position;
         gathered = columns_gathered.gathered;
         own = subst (OverOptional (is_in (ms ++ us))) columns_gathered.is columns_own;
-        plain = subst PlainOptional columns_gathered.is (tree_for_plain Ta ms us (Columns low high start));
+        plain = subst PlainOptional columns_gathered.is (tree_for_plain Ta ms us (Some (Columns low high start)));
         tables = record {
           row = row_inside;
           inside = let l = mul-le-mul_left w c.other_below in omega (arith, mul-suc w c.other, c.starts);
@@ -306,14 +306,14 @@ module _ (Ta : ℕ → Bool) (ms us : List ℕ) {m : ℕ → Bool} (parts : Mark
           ∙ sym (by_columns 0 0 0 all (row_of v ms) (row_of v us) (row_below v ms) (row_below v us) ∙ absorbed (Ta (0 + w * row_of v us)) (Ta (0 + row_of v ms)) ∙ ap Ta (omega arith))
           ∙ sym (selects_place v)
 
-      built_constant : Result m Ta ms us t Constant
+      built_constant : Result m Ta ms us t (Some Constant)
       built_constant = record {
         tree = constant_gathered.tree;
         is = constant_gathered.is;
         position = constant_gathered.position;
         gathered = constant_gathered.gathered;
         own = subst (OverOptional (is_in (ms ++ us))) constant_gathered.is constant_own;
-        plain = subst PlainOptional constant_gathered.is (tree_for_plain Ta ms us Constant);
+        plain = subst PlainOptional constant_gathered.is (tree_for_plain Ta ms us (Some Constant));
         tables = first_ready;
         equivalent = selects_equivalent t constant_gathered.tree (λ v. sym (constant_selects v) ∙ ap (selects_optional v) constant_gathered.is);
       }
@@ -373,7 +373,7 @@ module _ (Ta : ℕ → Bool) (ms us : List ℕ) {m : ℕ → Bool} (parts : Mark
     judged low high start c = go (ltb (failing Ta w (w * n) low high start) (w * n)) refl (first_fails (agrees Ta w low high start) (w * n) 0)
       where
         go : (b : Bool) → ltb (failing Ta w (w * n) low high start) (w * n) ≡ b → Fails (agrees Ta w low high start) (w * n) 0 (failing Ta w (w * n) low high start)
-            → Verdict m Ta ms us t (cond b Never (Columns low high start))
+            → Verdict m Ta ms us t (cond b None (Some (Columns low high start)))
         go true e f =
             let h : failing Ta w (w * n) low high start < w * n = ltb-true _ _ e in
             refused low high start (failing Ta w (w * n) low high start) c h (f.fails (omega arith))
@@ -440,7 +440,7 @@ module _ (Ta : ℕ → Bool) (ms us : List ℕ) {m : ℕ → Bool} (parts : Mark
         z = tabled.rows 0 (pow_pos (length (ms ++ us))) ∙ value_zero (ms ++ us) t
 
         go : (b : Bool) → ltb (failing Ta w (w * n) 0 0 0) (w * n) ≡ b → Fails (agrees Ta w 0 0 0) (w * n) 0 (failing Ta w (w * n) 0 0 0)
-            → Verdict m Ta ms us t (cond b (chosen_at Ta w (w * n) (failing Ta w (w * n) 0 0 0)) Constant)
+            → Verdict m Ta ms us t (cond b (chosen_at Ta w (w * n) (failing Ta w (w * n) 0 0 0)) (Some Constant))
         go true e f =
             let h : failing Ta w (w * n) 0 0 0 < w * n = ltb-true _ _ e in
             judged_at z (failing Ta w (w * n) 0 0 0) h (f.fails (omega arith))

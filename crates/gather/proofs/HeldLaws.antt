@@ -11,14 +11,15 @@ use lib.Seq.{get_or_at}
 use Rattle.tree.specs.Tree.{union, difference, Basic, plus, minus, Tree, node, is_group, is_in}
 use Rattle.tree.specs.InnerGroups.{Distinct}
 use Rattle.table.specs.InnerTable.{tabulate}
+use Rattle.forms.specs.InnerForms.{free}
 use Rattle.free_tables.specs.InnerTables.{Table, half, low_row, first_part, second_part, usable, some_on}
 use Rattle.forms.specs.declared.Form.{Form}
 use Rattle.forms.specs.declared.Form.TheVariants.{Drop, Less, Plus, ReducedPlus, JoinedLess, LessOutside, ReducedUnion, JoinedDifference}
 use Rattle.splits.specs.InnerSplits.{keeps_holder, allowed_top, drops_in_first, first_holder, second_holder, split_taken}
 use Rattle.splits.specs.declared.Holder.{Holder}
 use Rattle.splits.specs.declared.Holder.TheVariants.{Absent, Dropped, Held}
-use Rattle.splits.specs.declared.Use.{Use}
-use Rattle.splits.specs.declared.Use.TheVariants.{No, Plain, First, Second}
+use Rattle.splits.specs.declared.Plan.{Plan}
+use Rattle.splits.specs.declared.Plan.TheVariants.{Plain, First, Second}
 use Rattle.splits.specs.declared.Split.{Split}
 use Rattle.builder.specs.InnerBuilding.{join, left_tree, right_tree, outer, formed, variable_tree, without, build, Buildable}
 use Rattle.forms.proofs.TestLaws.{both}
@@ -173,7 +174,7 @@ distinct_without (suc v) (x ∷ us) h d =
     (outside (is_in (without v us) x) (λ q. true≢false (sym (in_without us v (omega arith) x q) ∙ d.0)), distinct_without v us (omega arith) d.1)
 
 -- b's table of Drop is free, so the holder can be dropped there
-dark : (n k i : ℕ) → get_or (tabulate (λ r. false) n k) i false ≡ false
+dark : (n k i : ℕ) → get_or (tabulate (λ r. free) n k) i free ≡ free
 unfolding tabulate
 dark zero k i = refl
 dark (suc n) k zero = refl
@@ -183,7 +184,7 @@ free_drops : (t : Table) (step : ℕ) → usable Drop (second_part Drop t step) 
 unfolding second_part
 free_drops t step =
     let w = second_part Drop t step in
-    let d : (i : ℕ) → get_or w.on i false ≡ false = dark (half t) 0 in
+    let d : (i : ℕ) → get_or w i free ≡ free = dark (half t) 0 in
     usable_by {t = w} (record {
       pairs = λ r l. rw (d (low_row (half w) r));
       first = rw (d (low_row (half w) 0), d (low_row (half w) 0 + half w));
@@ -227,7 +228,7 @@ module _ (h : Option Tree) (choice : Holder → Table → ℕ → ℕ) where
   dropped_some n {t} us e r d s =
       let l = end_length us n e in
       let w = end_without us n e in
-      let half_is : half t ≡ 2 ^ n = half_rows t.on n (r.rows ∙ ap (λ (k : ℕ). 2 ^ k) l) in
+      let half_is : half t ≡ 2 ^ n = half_rows t n (r.rows ∙ ap (λ (k : ℕ). 2 ^ k) l) in
       let a = absent_some n (without n (us ++ (0 ∷ []))) us w e (dropped_part n l r) d (subst (λ (k : ℕ). some_on (first_part Drop t k) ≡ true) half_is s) in
       (a.0, build_dropped h choice n r ∙ ap (λ (x : Option Tree). join plus x none) a.1)
 
@@ -254,7 +255,7 @@ module _ {m : ℕ → Bool} (h : Option Tree) (choice : Holder → Table → ℕ
   top_held n {t} us e r o g form may S =
       let l = end_length us n e in
       let w = end_without us n e in
-      let half_is : half t ≡ 2 ^ n = half_rows t.on n (r.rows ∙ ap (λ (k : ℕ). 2 ^ k) l) in
+      let half_is : half t ≡ 2 ^ n = half_rows t n (r.rows ∙ ap (λ (k : ℕ). 2 ^ k) l) in
       let un : (g : ℕ) → is_in (without n (us ++ (0 ∷ []))) g ≡ true → m g ≡ false = λ g q. o.unmarked g (ap (λ (ys : List ℕ). is_in ys g) (sym w) ∙ q) in
       let a = build choice n Absent (first_part form t (2 ^ n)) (without n (us ++ (0 ∷ []))) h in
       let b = build choice n Absent (second_part form t (2 ^ n)) (without n (us ++ (0 ∷ []))) h in
@@ -289,19 +290,18 @@ module _ {m : ℕ → Bool} (h : Option Tree) (choice : Holder → Table → ℕ
     variable_over = subst (λ (x : ℕ). OverOptional (unmarked m) (variable_tree h x)) (sym here_is)
         (group_over (unmarked m) h (get_or us v 0) (o.groups (get_or us v 0) (variable_in us v inside)) (ap not (o.unmarked (get_or us v 0) (variable_in us v inside))))
 
-    below_held : (u : Use) → (u ≡ No → ⊥) → BelowSays Held form t (2 ^ v) u → SplitBuildable Held t (us ++ (0 ∷ [])) (record { form = form; variable = v; plan = u }) → GatheredSome m h
+    below_held : (u : Plan) → BelowSays Held form t (2 ^ v) u → SplitBuildable Held t (us ++ (0 ∷ [])) (record { form = form; variable = v; plan = u }) → GatheredSome m h
         → ((t' : Table) → Buildable Held t' (without v us ++ (0 ∷ [])) → GatheredSome m (build choice (suc n) Held t' (without v us ++ (0 ∷ [])) h))
         → GatheredSome m (formed form (variable_tree h (get_or (us ++ (0 ∷ [])) v 0))
         (build choice (suc n) (first_holder u) (first_part form t (2 ^ v)) (without v (us ++ (0 ∷ []))) h)
         (build choice (suc n) (second_holder u) (second_part form t (2 ^ v)) (without v (us ++ (0 ∷ []))) h))
-    below_held No given b S g again = absurd (given refl)
-    below_held Plain given b S g again = absurd (held_not_absent b.0)
-    below_held First given b S g again =
+    below_held Plain b S g again = absurd (held_not_absent b.0)
+    below_held First b S g again =
         let A = again (first_part form t (2 ^ v)) (subst (Buildable Held (first_part form t (2 ^ v))) rest S.first) in
         let B = dropped_over n (without v us) rest_length (subst (Buildable Dropped (second_part form t (2 ^ v))) rest S.second) rest_others in
         subst (λ (ys : List ℕ). GatheredSome m (formed form (variable_tree h (get_or (us ++ (0 ∷ [])) v 0)) (build choice (suc n) Held (first_part form t (2 ^ v)) ys h) (build choice (suc n) Dropped (second_part form t (2 ^ v)) ys h)))
         (sym rest) (formed_first (variable_tree h (get_or (us ++ (0 ∷ [])) v 0)) _ _ form A variable_over B)
-    below_held Second given b S g again =
+    below_held Second b S g again =
         let A = subst (Buildable Dropped (first_part form t (2 ^ v))) rest S.first in
         let B = again (second_part form t (2 ^ v)) (subst (Buildable Held (second_part form t (2 ^ v))) rest S.second) in
         let x = group_tree h (get_or (us ++ (0 ∷ [])) v 0) (ap is_group here_is ∙ o.groups (get_or us v 0) (variable_in us v inside)) in
@@ -317,14 +317,14 @@ module _ {m : ℕ → Bool} (h : Option Tree) (choice : Holder → Table → ℕ
       (build choice n (first_holder s.plan) (first_part s.form t (2 ^ s.variable)) (without s.variable (us ++ (0 ∷ []))) h)
       (build choice n (second_holder s.plan) (second_part s.form t (2 ^ s.variable)) (without s.variable (us ++ (0 ∷ []))) h))
   taken_held n {t} us e r o g s (inl T) S again =
-      let q : s ≡ record { form = s.form; variable = n; plan = Plain } = ap₂ (λ (v : ℕ) (u : Use). record { form = s.form; variable = v; plan = u }) T.at T.plain in
+      let q : s ≡ record { form = s.form; variable = n; plan = Plain } = ap₂ (λ (v : ℕ) (u : Plan). record { form = s.form; variable = v; plan = u }) T.at T.plain in
       subst (λ (k : Split). GatheredSome m (formed k.form (variable_tree h (get_or (us ++ (0 ∷ [])) k.variable 0))
       (build choice n (first_holder k.plan) (first_part k.form t (2 ^ k.variable)) (without k.variable (us ++ (0 ∷ []))) h)
       (build choice n (second_holder k.plan) (second_part k.form t (2 ^ k.variable)) (without k.variable (us ++ (0 ∷ []))) h)))
       (sym q) (top_held n us e r o g s.form T.may (subst (SplitBuildable Held t (us ++ (0 ∷ []))) q S))
   taken_held zero {t} us e r o g s (inr B) S again = absurd (omega (arith, B.less))
   taken_held (suc n) {t} us e r o g s (inr B) S again =
-      below_held n us e r o s.form s.variable B.less s.plan B.some B.says S g (again n refl s.variable B.less)
+      below_held n us e r o s.form s.variable B.less s.plan B.says S g (again n refl s.variable B.less)
 
   pub held_gathered : (n : ℕ) {t : Table} (us : List ℕ) → length us ≡ n → Buildable Held t (us ++ (0 ∷ [])) → Others m us → GatheredSome m h
       → GatheredSome m (build choice (suc n) Held t (us ++ (0 ∷ [])) h)

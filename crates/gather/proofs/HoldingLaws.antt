@@ -2,23 +2,23 @@
 -- names its holder. So a status that names one says of a list that it is a gathered tree.
 use mathlib.Core.Path.{◌≡◌, refl, sym, ap, ap₂, subst, ◌∙◌}
 use mathlib.Core.Bool.{Bool, true, false, cond, not, false≢true}
-use mathlib.Core.Logic.{◌⊎◌, inl, inr}
 use mathlib.Core.List.{List, [], ◌∷◌, ◌++◌}
 use mathlib.Core.Option.{some}
 use Prim.Native.Nat.{ℕ, ◌+◌, ◌-◌}
 use native.Mathlib.Omega.{arith}
 use borrow.Author.Tests.{not-true}
 use lib.ListN.{length, length-append}
+use Rattle.std.specs.Prelude.{Option, Some, None, is_some}
+use Rattle.std.proofs.lemmas.Option.{none-some, same_Some}
 use Rattle.common.specs.Exactly.{Exactly}
 use Rattle.tree.specs.Tree.{Operator, Tree, leaf, node, postfix, size, Over, is_in}
 use Rattle.tree.specs.Context.{left, right, Frame, frame, plug, before, OverAbove}
 use Rattle.tree.specs.InnerPass.{fold}
-use Rattle.tree.specs.Parse.{tree_of, is_some}
 use Rattle.tree.proofs.TreeLaws.{postfix_length, size_positive}
 use Rattle.tree.proofs.ParseLaws.{IsTree}
 use Rattle.gather.specs.Gathering.{Gathered}
-use Rattle.gather.specs.Inner.{names_holder, GatheredList}
-use Rattle.holding.specs.InnerHolding.{merged, status}
+use Rattle.gather.specs.Inner.{GatheredList}
+use Rattle.holding.specs.InnerHolding.{holder, merged, status}
 use Rattle.holding.specs.declared.Status.{Status}
 use Rattle.holding.specs.declared.Status.TheVariants.{Free, Mixed, All, Held}
 use Rattle.gather.proofs.GatheringLaws.{unmarked, gathered_whole, gathered_left, gathered_right}
@@ -58,13 +58,16 @@ status_sound m i (node o l r) = merged_sound m i o l r (status m i l) (status m 
 
 -- ---- a status that names the holder at k
 abbrev pub Names : Status → ℕ → Type 0
-Names s k = (s ≡ Held k) ⊎ (s ≡ All k)
+Names s k = holder s ≡ Some k
 
 pub status_gathered : (m : ℕ → Bool) (t : Tree) (k : ℕ) → Names (status m 0 t) k → Gathered m t k
-status_gathered m t k (inl e) = let z : Sound m 0 t (Held k) = subst (Sound m 0 t) e (status_sound m 0 t) in subst (Gathered m t) (sym (z.2 ∙ omega arith)) z.1
-status_gathered m t k (inr e) =
-    let z : Sound m 0 t (All k) = subst (Sound m 0 t) e (status_sound m 0 t) in
-    subst (Gathered m t) (sym (z.1 ∙ omega arith)) (gathered_whole t z.0)
+status_gathered m t k e = go (status m 0 t) (status_sound m 0 t) e
+  where
+    go : (s : Status) → Sound m 0 t s → Names s k → Gathered m t k
+    go Free z e = absurd (none-some k e)
+    go Mixed z e = absurd (none-some k e)
+    go (All j) z e = subst (Gathered m t) (sym (z.1 ∙ omega arith) ∙ same_Some j k e) (gathered_whole t z.0)
+    go (Held j) z e = subst (Gathered m t) (sym (z.2 ∙ omega arith) ∙ same_Some j k e) z.1
 
 -- ---- a gathered tree's status
 status_free : (m : ℕ → Bool) (i : ℕ) (t : Tree) → Over (unmarked m) t → status m i t ≡ Free
@@ -79,12 +82,16 @@ status_all m i (node o l r) e =
     ap₂ (merged (i + size l + size r)) (status_all m i l e.0) (status_all m (i + size l) r e.1) ∙ ap All (omega arith)
 
 named_left : (p k : ℕ) (s : Status) → Names s k → Names (merged p s Free) k
-named_left p k s (inl e) = inl (ap (λ (x : Status). merged p x Free) e)
-named_left p k s (inr e) = inl (ap (λ (x : Status). merged p x Free) e)
+named_left p k Free e = e
+named_left p k Mixed e = e
+named_left p k (All j) e = e
+named_left p k (Held j) e = e
 
 named_right : (p k : ℕ) (s : Status) → Names s k → Names (merged p Free s) k
-named_right p k s (inl e) = inl (ap (merged p Free) e)
-named_right p k s (inr e) = inl (ap (merged p Free) e)
+named_right p k Free e = e
+named_right p k Mixed e = e
+named_right p k (All j) e = e
+named_right p k (Held j) e = e
 
 -- the name goes up through frames over unmarked groups
 named_plug : (m : ℕ → Bool) (c : List Frame) (t : Tree) (k : ℕ) → OverAbove (unmarked m) c → Names (status m (length (before c)) t) k → Names (status m 0 (plug t c)) k
@@ -106,35 +113,23 @@ gathered_status {m} {t} {p} g =
     let i = length (before g.above) in
     let e : i + (size g.holder - 1) ≡ p = omega (arith, g.at, size_positive g.holder) in
     subst (λ (x : Tree). Names (status m 0 x) p) (sym g.whole)
-    (named_plug m g.above g.holder p g.others (inr (status_all m i g.holder g.marked ∙ ap All e)))
+    (named_plug m g.above g.holder p g.others (ap holder (status_all m i g.holder g.marked) ∙ ap Some e))
 
 -- a status that names none: the tree is not gathered
-pub status_not : {m : ℕ → Bool} {t : Tree} {p : ℕ} (s : Status) → status m 0 t ≡ s → ((k : ℕ) → Names s k → ⊥) → Gathered m t p → ⊥
-status_not {m} {t} {p} s e n g = n p (subst (λ (x : Status). Names x p) e (gathered_status g))
+pub status_not : {m : ℕ → Bool} {t : Tree} {p : ℕ} → holder (status m 0 t) ≡ None → Gathered m t p → ⊥
+status_not {m} {t} {p} e g = none-some p (sym e ∙ gathered_status g)
 
 -- ---- whether a list is a gathered tree
-names_some : (s : Status) → names_holder s ≡ true → (k : ℕ) × Names s k
-names_some Free e = absurd (false≢true e)
-names_some Mixed e = absurd (false≢true e)
-names_some (All k) e = (k, inr refl)
-names_some (Held k) e = (k, inl refl)
-
-some_named : (s : Status) (k : ℕ) → Names s k → names_holder s ≡ true
-some_named s k (inl e) = ap names_holder e
-some_named s k (inr e) = ap names_holder e
-
 -- a tree's status says it
-pub says_gathered : {list marks : List ℕ} (T : IsTree list) (r : Bool) → r ≡ names_holder (status (is_in marks) 0 T.tree) → Exactly (r ≡ true) (GatheredList list marks)
-says_gathered {list} {marks} T r e = record {
-  only = λ q.
-      let n = names_some (status (is_in marks) 0 T.tree) (sym e ∙ q) in
-      record { tree = T.tree; is = T.is; holder = n.0; gathered = status_gathered (is_in marks) T.tree n.0 n.1 };
-  always = λ G.
-      let k : some G.tree ≡ some T.tree = sym G.is ∙ T.is in
-      let u : G.tree ≡ T.tree = cc in
-      e ∙ ap (λ (t : Tree). names_holder (status (is_in marks) 0 t)) (sym u) ∙ some_named (status (is_in marks) 0 G.tree) G.holder (gathered_status G.gathered);
-}
+pub says_gathered : {list marks : List ℕ} (T : IsTree list) (o : Option ℕ) → o ≡ holder (status (is_in marks) 0 T.tree) → Exactly (is_some o ≡ true) (GatheredList list marks)
+says_gathered {list} {marks} T o e = record { only = λ q. only o e q; always = always }
+  where
+    only : (o : Option ℕ) → o ≡ holder (status (is_in marks) 0 T.tree) → is_some o ≡ true → GatheredList list marks
+    only None e q = absurd (false≢true q)
+    only (Some k) e q = record { tree = T.tree; is = T.is; holder = k; gathered = status_gathered (is_in marks) T.tree k (sym e) }
 
--- a list that is no tree is none
-pub says_none : {list marks : List ℕ} → is_some (tree_of list) ≡ false → Exactly (false ≡ true) (GatheredList list marks)
-says_none e = record { only = λ q. absurd (false≢true q); always = λ G. sym e ∙ ap is_some G.is }
+    always : GatheredList list marks → is_some o ≡ true
+    always G =
+        let k : some G.tree ≡ some T.tree = sym G.is ∙ T.is in
+        let u : G.tree ≡ T.tree = cc in
+        ap (λ (r : Option ℕ). is_some r) (e ∙ ap (λ (t : Tree). holder (status (is_in marks) 0 t)) (sym u) ∙ gathered_status G.gathered)

@@ -12,7 +12,7 @@ use borrow.Author.Tests.{lt-ltb, le-ltb, ltb-true, ltb-false}
 use lib.ListN.{length, length-append, get_or-eq_default}
 use Rattle.tree.specs.Tree.{Tree, is_group, is_in}
 use Rattle.table.proofs.TableLaws.{row_of, row_below, row_agree, row_append, tabulate_at, length_tabulate}
-use Rattle.forms.specs.InnerForms.{may_use, first_row, second_row}
+use Rattle.forms.specs.InnerForms.{free, may_use, first_row, second_row}
 use Rattle.free_tables.specs.InnerTables.{Table, row_at, low_row, half, at_pair, first_part, second_part, usable, some_on}
 use Rattle.forms.specs.declared.Row.{Row}
 use Rattle.forms.specs.declared.Form.{Form}
@@ -27,12 +27,9 @@ use Rattle.builder.proofs.RowLaws.{split_row, half_rows, split_rows, usable_by, 
 use Rattle.builder.proofs.TakenLaws.{some_allowed}
 use Rattle.builder.proofs.ReadyLaws.{group_not_zero}
 use Rattle.builder.proofs.BuildLaws.{filled, build_agrees}
-use Rattle.columns.specs.InnerJoining.{exact_table, held_row, held_table}
+use Rattle.columns.specs.InnerJoining.{exact_row, exact_table, held_row, held_table}
 
 -- ---- exact tables
-abbrev exact_row : Bool → Row
-exact_row b = record { on = b; off = not b }
-
 not_both : (b : Bool) → (b && not b) ≡ false
 not_both true = refl
 not_both false = refl
@@ -45,8 +42,7 @@ fits_exact false false e = refl
 
 module _ (f : ℕ → Bool) (count : ℕ) where
   exact_row_lem : (i : ℕ) → i < count → row_at (exact_table f count) i ≡ exact_row (f i)
-  exact_row_lem i h = ap₂ (λ (x y : Bool). record { on = x; off = y })
-      (tabulate_at f count 0 i h ∙ ap f (omega arith)) (tabulate_at (λ k. not (f k)) count 0 i h ∙ ap (λ (k : ℕ). not (f k)) (omega arith))
+  exact_row_lem i h = tabulate_at (λ k. exact_row (f k)) count 0 i free h ∙ ap (λ (k : ℕ). exact_row (f k)) (omega arith)
 
   exact_consistent : (i : ℕ) → ((row_at (exact_table f count) i).on && (row_at (exact_table f count) i).off) ≡ false
   exact_consistent i = go (ltb i count) refl
@@ -55,10 +51,7 @@ module _ (f : ℕ → Bool) (count : ℕ) where
       go true e = ap (λ (x : Row). x.on && x.off) (exact_row_lem i (ltb-true i count e)) ∙ not_both (f i)
       go false e =
           let l : count ≤ i = ltb-false i count e in
-          ap (λ (b : Bool). b && (row_at (exact_table f count) i).off) (get_or-eq_default (exact_table f count).on false (omega (arith, length_tabulate f count 0)))
-
-  exact_same : length (exact_table f count).off ≡ length (exact_table f count).on
-  exact_same = length_tabulate (λ k. not (f k)) count 0 ∙ sym (length_tabulate f count 0)
+          ap (λ (x : Row). x.on && x.off) (get_or-eq_default (exact_table f count) free (omega (arith, length_tabulate (λ k. exact_row (f k)) count 0)))
 
   exact_first : 0 < count → f 0 ≡ false → (row_at (exact_table f count) 0).on ≡ false
   exact_first h e = ap (λ (x : Row). x.on) (exact_row_lem 0 h) ∙ e
@@ -66,8 +59,7 @@ module _ (f : ℕ → Bool) (count : ℕ) where
 -- a table over groups
 pub plain_buildable : (f : ℕ → Bool) (gs : List ℕ) → ((g : ℕ) → is_in gs g ≡ true → is_group g ≡ true) → f 0 ≡ false → Buildable Absent (exact_table f (2 ^ length gs)) gs
 plain_buildable f gs groups e = record {
-  rows = length_tabulate f (2 ^ length gs) 0;
-  same = exact_same f (2 ^ length gs);
+  rows = length_tabulate (λ k. exact_row (f k)) (2 ^ length gs) 0;
   first = exact_first f (2 ^ length gs) (pow_pos (length gs)) e;
   consistent = exact_consistent f (2 ^ length gs);
   variables = groups;
@@ -88,7 +80,7 @@ plain_selects f gs groups e choice h v =
     ∙ build_agrees v h choice (length gs) refl (plain_buildable f gs groups e))
 
 pub plain_some_on : (f : ℕ → Bool) (count i : ℕ) → i < count → f i ≡ true → some_on (exact_table f count) ≡ true
-plain_some_on f count i h e = some_on_lem (exact_table f count) i (omega (arith, length_tabulate f count 0)) (ap (λ (x : Row). x.on) (exact_row_lem f count i h) ∙ e)
+plain_some_on f count i h e = some_on_lem (exact_table f count) i (omega (arith, length_tabulate (λ k. exact_row (f k)) count 0)) (ap (λ (x : Row). x.on) (exact_row_lem f count i h) ∙ e)
 
 -- ---- the table with the holder
 both_true : (a b : Bool) → a ≡ true → b ≡ true → (a && b) ≡ true
@@ -118,11 +110,11 @@ module _ (Ta : ℕ → Bool) (ms us : List ℕ) (p : ℕ) where
   abbrev held : Table
   held = held_table Ta ms us p
 
-  held_rows : length held.on ≡ 2 ^ suc (length us)
-  held_rows = length_tabulate (held_row Ta ms us p) (2 ^ suc (length us)) 0
+  held_rows : length held ≡ 2 ^ suc (length us)
+  held_rows = length_tabulate (λ k. exact_row (held_row Ta ms us p k)) (2 ^ suc (length us)) 0
 
   half_held : half held ≡ n
-  half_held = half_rows held.on (length us) held_rows
+  half_held = half_rows held (length us) held_rows
 
   low_value : (r : ℕ) → r < n → held_row Ta ms us p r ≡ Ta (w * r)
   low_value r h = ap (λ (b : Bool). Ta (cond b (w * r) (w * (r - n) + p))) (lt-ltb r n h)
@@ -186,7 +178,6 @@ module _ (Ta : ℕ → Bool) (ms us : List ℕ) (p : ℕ) where
   pub held_buildable : ((g : ℕ) → is_in us g ≡ true → is_group g ≡ true) → Ta 0 ≡ false → can_hold held ≡ true → Buildable Held held (us ++ (0 ∷ []))
   held_buildable groups z c = record {
     rows = held_rows ∙ ap (λ (k : ℕ). 2 ^ k) (let e : suc (length us) ≡ length (us ++ (0 ∷ [])) = omega (arith, length-append us (0 ∷ [])) in e);
-    same = exact_same (held_row Ta ms us p) (2 ^ suc (length us));
     first = exact_first (held_row Ta ms us p) (2 ^ suc (length us)) (pow_pos (suc (length us))) (low_value 0 (pow_pos (length us)) ∙ ap Ta (mul-zero w) ∙ z);
     consistent = exact_consistent (held_row Ta ms us p) (2 ^ suc (length us));
     variables = (us, refl, groups);

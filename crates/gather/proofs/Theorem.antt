@@ -3,6 +3,7 @@
 -- constant. That such columns rule every gathered tree out stands in proofs/GatheringLaws.antt, and that without them one can be
 -- built, without `I`, in proofs/ChoosingLaws.antt, for a list of marked groups and a list of others. Here the lists are taken from
 -- the tree. So the verdict is the same as by trees without `I` alone.
+use Rattle.std.specs.Prelude.{Some, None}
 use mathlib.Core.Path.{◌≡◌, refl, sym, ap, ◌∙◌}
 use mathlib.Core.Bool.{Bool, true, false, not, cond, ◌&&◌, ◌||◌, false≢true}
 use mathlib.Core.List.{List, [], ◌∷◌, ◌++◌}
@@ -17,9 +18,8 @@ use Rattle.tree.proofs.TreeLaws.{or_right, or_cases, in_left, in_right, over_lea
 use Rattle.tree.proofs.GroupLaws.{is_in_here, in_collect, distinct_collect, collect_longer, leaves_groups}
 use Rattle.table.specs.InnerTable.{value_at}
 use Rattle.forms.proofs.TestLaws.{both}
-use Rattle.columns.specs.InnerChoosing.{choice}
-use Rattle.columns.specs.declared.Choice.{Choice}
-use Rattle.columns.specs.declared.Choice.TheVariants.{Never, Constant, Columns}
+use Rattle.columns.specs.InnerChoosing.{Allowed, choice}
+use Rattle.columns.specs.declared.Choice.TheVariants.{Constant, Columns}
 use Rattle.gather.specs.Gathering.{CannotBeGathered}
 use Rattle.gather.proofs.Criterion.{FiveFillings, Criterion, CannotBeGatheredWithoutIntersection}
 use Rattle.gather.specs.Inner.{MarkedParts}
@@ -91,10 +91,10 @@ module _ (m : ℕ → Bool) (x : ℕ) (group : is_group x ≡ true) (marked : m 
   cannot_five n = go (choice (value_at (ms ++ us) t) (2 ^ length ms) (2 ^ length ms * 2 ^ length us))
       (verdict (value_at (ms ++ us) t) ms us parts t (record { rows = λ i h. refl }) over)
     where
-      go : (c : Choice) → Verdict m (value_at (ms ++ us) t) ms us t c → FiveFillings m t
-      go Never f = f
-      go Constant r = absurd (n.never r.tree _ r.plain r.equivalent r.gathered)
-      go (Columns low high start) r = absurd (n.never r.tree _ r.plain r.equivalent r.gathered)
+      go : (c : Allowed) → Verdict m (value_at (ms ++ us) t) ms us t c → FiveFillings m t
+      go None f = f
+      go (Some Constant) r = absurd (n.never r.tree _ r.plain r.equivalent r.gathered)
+      go (Some (Columns low high start)) r = absurd (n.never r.tree _ r.plain r.equivalent r.gathered)
 
 -- a marked group, where all leaves of a tree are marked
 marked_leaf : {m : ℕ → Bool} (t : Tree) → Over m t → (x : ℕ) × (is_group x ≡ true) × (m x ≡ true)

@@ -1,7 +1,6 @@
 -- The whole: what has no fault, the groups with the marks first, and what a choice and its tree say of the given tree.
 use mathlib.Core.Path.{◌≡◌, refl, sym, ap, ap₂, subst, ◌∙◌}
 use mathlib.Core.Bool.{Bool, true, false, not, cond, ◌||◌, false≢true}
-use mathlib.Core.Logic.{inl, inr}
 use mathlib.Core.List.{List, [], ◌∷◌, ◌++◌}
 use mathlib.Core.Option.{Option, some, none}
 use Prim.Native.Nat.{ℕ, zero, suc, ◌+◌, ◌-◌, ◌*◌, ◌^◌, ◌<◌, ◌≤◌}
@@ -9,14 +8,15 @@ use native.Mathlib.Nat.{mul-add, mul-le-mul_right, mul-le-mul_left, pow-suc, mul
 use native.Mathlib.Omega.{arith}
 use lib.Pow.{pow_pos, pow-add, pow_mono}
 use lib.Dec.{eqb, ltb}
-use borrow.Author.Tests.{lt-ltb, ltb-true, ltb-false, eqb-true, eqb-false, not-false}
+use borrow.Author.Tests.{lt-ltb, ltb-false, eqb-true, eqb-false, not-false}
 use lib.ListN.{length, get_or, take, drop, length-append, length-drop, take-append-drop}
-use lib.Seq.{sets, take_all, take_at, drop_at, length-take-le}
+use lib.Seq.{take_all, take_at, drop_at, length-take-le}
+use Rattle.std.specs.Prelude.{◌≢◌, Some, None, Ok, Err}
 use Rattle.tree.specs.Tree.{Tree, sign, union, plus, minus, is_group, postfix, size, most_nodes, Over, leaves, is_in, collect, groups, most_groups}
-use Rattle.tree.specs.InnerGroups.{Distinct, leaves_in, Collected}
+use Rattle.tree.specs.InnerGroups.{Distinct, leaves_in}
 use Rattle.tree.specs.Parse.{tree_of}
 use Rattle.tree.specs.InnerWriting.{Wrote}
-use Rattle.tree.proofs.TreeLaws.{postfix_length, size_positive, equivalent_refl, over_implies, or_cases, in_right, group_most}
+use Rattle.tree.proofs.TreeLaws.{postfix_length, equivalent_refl, over_implies, or_cases, in_right, group_most}
 use Rattle.tree.proofs.GroupLaws.{is_in_here, in_later, in_collect, distinct_collect, distinct_split, collect_begins, collect_distinct, distinct_most, leaves_groups, groups_leaves, over_collect, leaves_postfix}
 use Rattle.tree.proofs.ParseLaws.{IsTree, tree_length, tree_of_sound, postfix_injective}
 use Rattle.tree.proofs.WritingLaws.{wrote_over, wrote_take}
@@ -29,23 +29,20 @@ use Rattle.builder.specs.InnerBuilding.{postfix_optional, size_optional, join, s
 use Rattle.builder.proofs.ReadyLaws.{less_one}
 use Rattle.builder.proofs.SizeLaws.{join_size, leaf_size, build_size}
 use Rattle.columns.specs.InnerJoining.{first_rows, column_table, holder_tree, columns_tree, constant_tree, tree_for}
-use Rattle.columns.specs.InnerChoosing.{choice}
+use Rattle.columns.specs.InnerChoosing.{Allowed, choice}
 use Rattle.columns.specs.Inner.{Scanned, Room, ColumnsReady, ConstantReady, ReadyFor}
-use Rattle.columns.specs.declared.Choice.{Choice}
-use Rattle.columns.specs.declared.Choice.TheVariants.{Never, Constant, Columns}
+use Rattle.columns.specs.declared.Choice.TheVariants.{Constant, Columns}
 use Rattle.gather.specs.Gathering.{Gathered}
-use Rattle.holding.specs.InnerHolding.{status}
-use Rattle.gather.specs.Inner.{MarkedParts, Ordered}
-use Rattle.gather.specs.Answer.{bad_mark, groups_fault, tree_fault, gather_fault, GatheredTo, GathersTree}
-use Rattle.gather.specs.InnerGathered.{tree_by, rearranged, gathered_by, named_by, Returned}
+use Rattle.holding.specs.InnerHolding.{holder, status}
+use Rattle.gather.specs.Inner.{tree_list, MarkedParts, Ordered}
+use Rattle.gather.specs.Answer.{Gathering, bad_mark, groups_fault, tree_fault, gather_fault, GatheredTo, GathersTree}
+use Rattle.gather.specs.InnerGathered.{tree_by, rearranged, gathered_by, Returned}
 use Rattle.holding.specs.declared.Status.{Status}
-use Rattle.holding.specs.declared.Status.TheVariants.{Free, Mixed, All, Held}
-use Rattle.gather.specs.declared.Gathering.{Gathering}
-use Rattle.gather.specs.declared.Gathering.TheVariants.{Done, Refused}
+use Rattle.gather.specs.declared.Refusal.TheVariants.{CannotBeGathered}
 use Rattle.gather.proofs.GatheringLaws.{fillings_cannot}
 use Rattle.gather.proofs.ChoosingLaws.{ColumnTables, Result, Verdict, verdict, both_false}
-use Rattle.gather.proofs.HoldingLaws.{Names, status_gathered}
-use Rattle.gather.proofs.GatheredLaws.{holder_of_lem, returned_tree, returned_none, returned_as}
+use Rattle.gather.proofs.HoldingLaws.{Names, status_gathered, gathered_status}
+use Rattle.gather.proofs.GatheredLaws.{returned_tree, returned_none, returned_given}
 
 -- ---- sizes
 single_small : (x : ℕ) → size_optional (single x) ≤ 1
@@ -79,7 +76,7 @@ module _ {list gs : List ℕ} {m : ℕ} (o : Ordered list gs m) where
   pub rest_all : take (length gs - m) (drop m gs) ≡ drop m gs
   rest_all = take_all (length gs - m) (drop m gs) (omega (arith, length-drop m gs))
 
-  pub all_wrote : (T : ℕ → Bool) (c : Choice) {out out' : List ℕ} {count : ℕ}
+  pub all_wrote : (T : ℕ → Bool) (c : Allowed) {out out' : List ℕ} {count : ℕ}
       → Wrote out 0 out' count (postfix_optional (tree_for T (take m gs) (take (length gs - m) (drop m gs)) c)) → Wrote out 0 out' count (postfix_optional (tree_for T (take m gs) (drop m gs) c))
   all_wrote T c {out} {out'} {count} f = subst (λ (us : List ℕ). Wrote out 0 out' count (postfix_optional (tree_for T (take m gs) us c))) rest_all f
 
@@ -109,17 +106,15 @@ module _ {list gs : List ℕ} {m : ℕ} (o : Ordered list gs m) where
     few_others : length (drop m gs) + 1 ≤ most_groups
     few_others = omega (arith, length-drop m gs, o.most, marks_length, o.parts.some_mark, o.within)
 
-    pub room : (n : ℕ) → most_nodes ≤ n → Room (take m gs) (drop m gs) w columns n
+    pub room : (n : ℕ) → most_nodes ≤ n → Room (take m gs) (drop m gs) n
     room n h = record {
-      width = width_is;
-      count = count_is_lem;
-      most = total_most;
+      few = omega (arith, marks_length, length-drop m gs, o.within, o.most);
       some_mark = o.parts.some_mark;
       space = omega (arith, most_power (length (drop m gs)), most_power (length (take m gs)), rows_most (length (drop m gs)) (omega (arith, few_others)), rows_most (length (take m gs)) few_marks);
     }
 
     -- what the choice says of the given tree
-    module _ (t : Tree) (e : list ≡ postfix t) (rows : List Bool) (er : rows ≡ table gs t) (c : Choice) (q : c ≡ choice (rows_of rows) w (w * columns)) where
+    module _ (t : Tree) (e : list ≡ postfix t) (rows : List Bool) (er : rows ≡ table gs t) (c : Allowed) (q : c ≡ choice (rows_of rows) w (w * columns)) where
       tabled : Tabled (rows_of rows) (take m gs ++ drop m gs) t
       tabled = subst (λ (xs : List ℕ). Tabled (rows_of rows) xs t) (sym (take-append-drop m gs))
           (record { rows = λ i h. ap (λ (r : List Bool). get_or r i false) er ∙ table_at gs t i (omega (arith, rows_most (length gs) o.most)) })
@@ -147,19 +142,19 @@ module _ {list gs : List ℕ} {m : ℕ} (o : Ordered list gs m) where
       pub ready_for : ReadyFor (rows_of rows) (take m gs) (drop m gs) c
       ready_for = go c judgement
         where
-          go : (k : Choice) → Verdict (is_in (take m gs)) (rows_of rows) (take m gs) (drop m gs) t k → ReadyFor (rows_of rows) (take m gs) (drop m gs) k
-          go Never v = tt
-          go Constant v = constant_ready v.tables
-          go (Columns low high start) v = columns_ready (low + high) start v.tables
+          go : (k : Allowed) → Verdict (is_in (take m gs)) (rows_of rows) (take m gs) (drop m gs) t k → ReadyFor (rows_of rows) (take m gs) (drop m gs) k
+          go None v = tt
+          go (Some Constant) v = constant_ready v.tables
+          go (Some (Columns low high start)) v = columns_ready (low + high) start v.tables
 
       sizes : (most_built (length (take m gs)) + 2 * most_built (length (drop m gs)) + 2 ≤ most_gathered) × (most_built (length (drop m gs)) + 4 ≤ most_gathered)
       sizes = both_most (length (take m gs)) (length (drop m gs)) o.parts.some_mark (omega (arith, total_most, ap₂ ◌*◌ width_is count_is_lem))
 
       -- how large its tree is
-      tree_small : (k : Choice) → ReadyFor (rows_of rows) (take m gs) (drop m gs) k → size_optional (tree_for (rows_of rows) (take m gs) (drop m gs) k) ≤ most_gathered
+      tree_small : (k : Allowed) → ReadyFor (rows_of rows) (take m gs) (drop m gs) k → size_optional (tree_for (rows_of rows) (take m gs) (drop m gs) k) ≤ most_gathered
       unfolding constant_tree columns_tree holder_tree
-      tree_small Never r = omega arith
-      tree_small Constant r =
+      tree_small None r = omega arith
+      tree_small (Some Constant) r =
           let x = single (get_or (take m gs) 0 0) in
           let a = build_size choose (length (drop m gs)) none r.table.table refl tt in
           omega (
@@ -170,7 +165,7 @@ module _ {list gs : List ℕ} {m : ℕ} (o : Ordered list gs m) where
             a,
             sizes.1,
           )
-      tree_small (Columns low high start) r =
+      tree_small (Some (Columns low high start)) r =
           let h = build choose (length (take m gs)) Absent (column_table (rows_of rows) (take m gs) (drop m gs) start) (take m gs) none in
           let a = build_size choose (length (take m gs)) none r.column.table refl tt in
           let b = build_size choose (suc (length (drop m gs))) h r.table.table (omega (arith, length-append (drop m gs) (0 ∷ []))) r.holder in
@@ -182,76 +177,65 @@ module _ {list gs : List ℕ} {m : ℕ} (o : Ordered list gs m) where
           ap (λ (r : List Bool). tree_for (rows_of r) (take m gs) (drop m gs) (choice (rows_of r) (2 ^ m) (2 ^ length gs))) (sym er)
           ∙ ap (tree_for (rows_of rows) (take m gs) (drop m gs)) (ap₂ (choice (rows_of rows)) (sym ew) (sym total_is) ∙ sym q)
 
-      module _ (out out' : List ℕ) (space : most_nodes ≤ length out) (count : ℕ) (wrote : Wrote out 0 out' count (postfix_optional (tree_for (rows_of rows) (take m gs) (drop m gs) c))) where
-        -- a choice that is made has its tree
-        result : (count ≡ 0 → ⊥) → Result (is_in (take m gs)) (rows_of rows) (take m gs) (drop m gs) t c
-        result = go c judgement wrote.ends
+      -- a choice that is made has its tree
+      module _ (n : c ≢ None) where
+        result : Result (is_in (take m gs)) (rows_of rows) (take m gs) (drop m gs) t c
+        result = go c judgement n
           where
-            go : (k : Choice) → Verdict (is_in (take m gs)) (rows_of rows) (take m gs) (drop m gs) t k → count ≡ 0 + length (postfix_optional (tree_for (rows_of rows) (take m gs) (drop m gs) k)) → (count ≡ 0 → ⊥)
-                → Result (is_in (take m gs)) (rows_of rows) (take m gs) (drop m gs) t k
-            go Never v l n = absurd (n (omega arith))
-            go Constant v l n = v
-            go (Columns low high start) v l n = v
+            go : (k : Allowed) → Verdict (is_in (take m gs)) (rows_of rows) (take m gs) (drop m gs) t k → k ≢ None → Result (is_in (take m gs)) (rows_of rows) (take m gs) (drop m gs) t k
+            go None v d = absurd (d refl)
+            go (Some Constant) v d = v
+            go (Some (Columns low high start)) v d = v
 
-        module _ (n : count ≡ 0 → ⊥) where
-          tree_wrote : Wrote out 0 out' count (postfix (result n).tree)
-          tree_wrote = subst (λ (x : Option Tree). Wrote out 0 out' count (postfix_optional x)) (result n).is wrote
+        small : size result.tree ≤ most_nodes
+        small = let q : size result.tree ≤ most_gathered = subst (λ (x : Option Tree). size_optional x ≤ most_gathered) result.is (tree_small c ready_for) in omega arith
 
-          small : size (result n).tree ≤ most_nodes
-          small = let q : size (result n).tree ≤ most_gathered = subst (λ (x : Option Tree). size_optional x ≤ most_gathered) (result n).is (tree_small c ready_for) in omega arith
+        module _ {out out' : List ℕ} {count : ℕ} (wrote : Wrote out 0 out' count (tree_list rows (take m gs) (take (length gs - m) (drop m gs)) c)) (space : most_nodes ≤ length out) where
+          tree_wrote : Wrote out 0 out' count (postfix result.tree)
+          tree_wrote = subst (λ (x : Option Tree). Wrote out 0 out' count (postfix_optional x)) result.is (rw rest_all at wrote)
 
-          front : take count out' ≡ postfix (result n).tree
-          front = wrote_take tree_wrote (omega (arith, small, postfix_length (result n).tree))
+          front : take count out' ≡ postfix result.tree
+          front = wrote_take tree_wrote (omega (arith, small, postfix_length result.tree))
 
           pub inside : count ≤ length out'
-          inside = omega (arith, tree_wrote.ends, tree_wrote.same, small, postfix_length (result n).tree)
+          inside = omega (arith, tree_wrote.ends, tree_wrote.same, small, postfix_length result.tree)
 
           pub written_tree : Listed (take count out')
-          written_tree = ((result n).tree, front, omega (arith, ap length front, small, postfix_length (result n).tree))
+          written_tree = (result.tree, front, omega (arith, ap length front, small, postfix_length result.tree))
 
-          gathered_to : (s : Status) → ((u : Tree) → take count out' ≡ postfix u → s ≡ status (is_in (take m gs)) 0 u) → GatheredTo t (take m gs) out out' count (named_by s)
-          gathered_to s named = record {
-            result = (result n).tree;
+          -- whose status names its holder
+          pub holder_found : (s : Status) → ((u : Tree) → take count out' ≡ postfix u → s ≡ status (is_in (take m gs)) 0 u) → (k : ℕ) × Names s k
+          holder_found s e = (_, ap holder (e result.tree front) ∙ gathered_status result.gathered)
+
+          gathered_to : (s : Status) (k : ℕ) → ((u : Tree) → take count out' ≡ postfix u → s ≡ status (is_in (take m gs)) 0 u) → Names s k → GatheredTo t (take m gs) out out' count k
+          gathered_to s k is named = record {
+            result = result.tree;
             unchanged = λ p g. absurd (o.not_gathered_lem t p e g);
-            equivalent = (result n).equivalent;
-            gathered = subst (Gathered (is_in (take m gs)) (result n).tree) (holder_of_lem (take m gs) (result n).gathered ∙ sym (ap named_by (named (result n).tree front))) (result n).gathered;
-            own = over_implies (λ g h. o.own t e g (subst (λ (xs : List ℕ). is_in xs g ≡ true) (take-append-drop m gs) h)) (result n).tree (result n).own;
-            plain = λ p. (result n).plain;
+            equivalent = result.equivalent;
+            gathered = status_gathered (is_in (take m gs)) result.tree k (ap holder (sym (is result.tree front)) ∙ named);
+            own = over_implies (λ g h. o.own t e g (subst (λ (xs : List ℕ). is_in xs g ≡ true) (take-append-drop m gs) h)) result.tree result.own;
+            plain = λ p. result.plain;
             most = small;
-            counted = omega (arith, tree_wrote.ends, postfix_length (result n).tree);
-            written = wrote_over tree_wrote (omega (arith, small, postfix_length (result n).tree));
+            counted = omega (arith, tree_wrote.ends, postfix_length result.tree);
+            written = wrote_over tree_wrote (omega (arith, small, postfix_length result.tree));
           }
 
-          pub gathers_done : (s : Status) (holder : ℕ) → ((u : Tree) → take count out' ≡ postfix u → s ≡ status (is_in (take m gs)) 0 u) → holder ≡ named_by s → GathersTree t (take m gs) out out' (Done count holder)
+          pub gathers_done : (s : Status) (k : ℕ) → ((u : Tree) → take count out' ≡ postfix u → s ≡ status (is_in (take m gs)) 0 u) → Names s k → GathersTree t (take m gs) out out' (Ok (record { nodes = count; holder = k }))
           unfolding GathersTree
-          gathers_done s holder named h = subst (GatheredTo t (take m gs) out out' count) (sym h) (gathered_to s named)
+          gathers_done s k is named = gathered_to s k is named
 
-          pub returns_done : (s : Status) (holder : ℕ) → ((u : Tree) → take count out' ≡ postfix u → s ≡ status (is_in (take m gs)) 0 u) → holder ≡ named_by s → Returned (take m gs) (tree_by gs m t) out out' (Done count holder)
+          pub returns_done : (s : Status) (k : ℕ) → ((u : Tree) → take count out' ≡ postfix u → s ≡ status (is_in (take m gs)) 0 u) → Names s k → Returned (take m gs) (tree_by gs m t) out out' (Ok (record { nodes = count; holder = k }))
           unfolding gathered_to
-          returns_done s holder named h =
-              subst (λ (k : ℕ). Returned (take m gs) (tree_by gs m t) out out' (Done count k)) (sym h) (returned_tree (gathered_to s named) (tree_is_lem ∙ (result n).is))
+          returns_done s k is named = returned_tree (gathered_to s k is named) (tree_is_lem ∙ result.is)
 
-        -- none is made
-        none_is : count ≡ 0 → c ≡ Never
-        none_is z = go c judgement wrote.ends
-          where
-            absurd_tree : {o : Option Tree} {u : Tree} {X : Type 0} → o ≡ some u → count ≡ 0 + length (postfix_optional o) → X
-            absurd_tree {o} {u} e l = absurd (omega (arith, ap (λ (x : Option Tree). length (postfix_optional x)) e, postfix_length u, size_positive u))
-
-            go : (k : Choice) → Verdict (is_in (take m gs)) (rows_of rows) (take m gs) (drop m gs) t k → count ≡ 0 + length (postfix_optional (tree_for (rows_of rows) (take m gs) (drop m gs) k)) → k ≡ Never
-            go Never v l = refl
-            go Constant v l = absurd_tree v.is l
-            go (Columns low high start) v l = absurd_tree v.is l
-
-        unchanged : c ≡ Never → out' ≡ out
-        unchanged d = wrote.list ∙ ap (λ (k : Choice). sets out 0 (postfix_optional (tree_for (rows_of rows) (take m gs) (drop m gs) k))) d
-
-        pub gathers_none : count ≡ 0 → GathersTree t (take m gs) out out' (Refused 19)
+      -- none is made
+      module _ {out out' : List ℕ} (n : (c ≡ None) × (out' ≡ out)) where
+        pub gathers_none : GathersTree t (take m gs) out out' (Err CannotBeGathered)
         unfolding GathersTree
-        gathers_none z = (refl, unchanged (none_is z), fillings_cannot (subst (Verdict (is_in (take m gs)) (rows_of rows) (take m gs) (drop m gs) t) (none_is z) judgement))
+        gathers_none = (refl, n.1, fillings_cannot (subst (Verdict (is_in (take m gs)) (rows_of rows) (take m gs) (drop m gs) t) n.0 judgement))
 
-        pub returns_none : count ≡ 0 → Returned (take m gs) (tree_by gs m t) out out' (Refused 19)
-        returns_none z = returned_none refl (unchanged (none_is z)) (tree_is_lem ∙ ap (tree_for (rows_of rows) (take m gs) (drop m gs)) (none_is z))
+        pub returns_none : Returned (take m gs) (tree_by gs m t) out out' (Err CannotBeGathered)
+        returns_none = returned_none n.1 (tree_is_lem ∙ ap (tree_for (rows_of rows) (take m gs) (drop m gs)) n.0)
 
 -- ---- nothing at fault
 -- marks that are not bad
@@ -342,21 +326,16 @@ module _ {list marks : List ℕ} {room : ℕ} (f : Faultless list marks room) wh
   unfolding t₀
   marks_few = omega (arith, distinct_most marks (groups t₀) f.good.distinct f.good.known, f.few)
 
-  pub first_count : (found : List ℕ) (count : ℕ) → Collected (collect [] (leaves_in marks)) found count → count ≤ most_groups
-  first_count found count c = go (ltb most_groups count) refl
-    where
-      go : (b : Bool) → ltb most_groups count ≡ b → count ≤ most_groups
-      go true e = absurd (omega (arith, c.more (ltb-true most_groups count e), ap length marks_collected, marks_few))
-      go false e = ltb-false most_groups count e
+  pub first_few : length (collect [] (leaves_in marks)) ≤ most_groups
+  first_few = omega (arith, ap length marks_collected, marks_few)
 
   -- all groups, the marks first
   all : List ℕ
   all = collect marks (leaves t₀)
 
-  all_is : (found : List ℕ) (count : ℕ) → Collected (collect [] (leaves_in marks)) found count → collect (take count found) (leaves_in list) ≡ all
+  all_is : (first : List ℕ) → first ≡ collect [] (leaves_in marks) → collect first (leaves_in list) ≡ all
   unfolding t₀ all
-  all_is found count c =
-      ap₂ collect (c.fits (first_count found count c) ∙ marks_collected) (ap leaves_in f.tree.list ∙ leaves_postfix t₀)
+  all_is first c = ap₂ collect (c ∙ marks_collected) (ap leaves_in f.tree.list ∙ leaves_postfix t₀)
 
   all_distinct : Distinct all
   unfolding all
@@ -370,65 +349,61 @@ module _ {list marks : List ℕ} {room : ℕ} (f : Faultless list marks room) wh
   unfolding t₀
   all_few = omega (arith, distinct_most all (groups t₀) all_distinct all_own, f.few)
 
-  module _ (found₁ : List ℕ) (count₁ : ℕ) (c₁ : Collected (collect [] (leaves_in marks)) found₁ count₁)
-      (found : List ℕ) (count : ℕ) (c : Collected (collect (take count₁ found₁) (leaves_in list)) found count) where
-    pub all_count : count ≤ most_groups
-    all_count = go (ltb most_groups count) refl
-      where
-        go : (b : Bool) → ltb most_groups count ≡ b → count ≤ most_groups
-        go true e = absurd (omega (arith, c.more (ltb-true most_groups count e), ap length (all_is found₁ count₁ c₁), all_few))
-        go false e = ltb-false most_groups count e
+  module _ (first : List ℕ) (c₁ : first ≡ collect [] (leaves_in marks)) where
+    pub together_few : length (collect first (leaves_in list)) ≤ most_groups
+    together_few = omega (arith, ap length (all_is first c₁), all_few)
 
-    all_found : take count found ≡ all
-    all_found = c.fits all_count ∙ all_is found₁ count₁ c₁
+    module _ (found : List ℕ) (c : found ≡ collect first (leaves_in list)) where
+      found_is : found ≡ all
+      found_is = c ∙ all_is first c₁
 
-    begins : all ≡ marks ++ (collect_begins marks (leaves t₀)).0
-    unfolding all
-    begins = (collect_begins marks (leaves t₀)).1
+      begins : all ≡ marks ++ (collect_begins marks (leaves t₀)).0
+      unfolding all
+      begins = (collect_begins marks (leaves t₀)).1
 
-    pub marks_first : take (length marks) (take count found) ≡ marks
-    marks_first = ap (take (length marks)) (all_found ∙ begins) ∙ take_at marks (collect_begins marks (leaves t₀)).0 (length marks) refl
+      pub marks_first : take (length marks) found ≡ marks
+      marks_first = ap (take (length marks)) (found_is ∙ begins) ∙ take_at marks (collect_begins marks (leaves t₀)).0 (length marks) refl
 
-    rest_is : drop (length marks) (take count found) ≡ (collect_begins marks (leaves t₀)).0
-    rest_is = ap (drop (length marks)) (all_found ∙ begins) ∙ drop_at marks (collect_begins marks (leaves t₀)).0 (length marks) refl
+      rest_is : drop (length marks) found ≡ (collect_begins marks (leaves t₀)).0
+      rest_is = ap (drop (length marks)) (found_is ∙ begins) ∙ drop_at marks (collect_begins marks (leaves t₀)).0 (length marks) refl
 
-    same_tree : (t : Tree) → list ≡ postfix t → t ≡ t₀
-    unfolding t₀
-    same_tree t e = postfix_injective t t₀ (sym e ∙ f.tree.list)
+      same_tree : (t : Tree) → list ≡ postfix t → t ≡ t₀
+      unfolding t₀
+      same_tree t e = postfix_injective t t₀ (sym e ∙ f.tree.list)
 
-    -- the tree by these groups is the one by the given tree's own
-    pub all_returned : {out out' : List ℕ} {r : Gathering} (t : Tree) → list ≡ postfix t
-        → Returned (take (length marks) (take count found)) (tree_by (take count found) (length marks) t) out out' r → Returned marks (rearranged t marks) out out' r
-    unfolding t₀ all
-    all_returned {out} {out'} {r} t e R =
-        let g : take count found ≡ collect marks (leaves t) = all_found ∙ ap (λ (x : Tree). collect marks (leaves x)) (sym (same_tree t e)) in
-        subst (λ (xs : List ℕ). Returned marks (tree_by xs (length marks) t) out out' r) g
-        (subst (λ (ms : List ℕ). Returned ms (tree_by (take count found) (length marks) t) out out' r) marks_first R)
+      -- the tree by these groups is the one by the given tree's own
+      pub all_returned : {out out' : List ℕ} {r : Gathering} (t : Tree) → list ≡ postfix t
+          → Returned (take (length marks) found) (tree_by found (length marks) t) out out' r → Returned marks (rearranged t marks) out out' r
+      unfolding t₀ all
+      all_returned {out} {out'} {r} t e R =
+          let g : found ≡ collect marks (leaves t) = found_is ∙ ap (λ (x : Tree). collect marks (leaves x)) (sym (same_tree t e)) in
+          subst (λ (xs : List ℕ). Returned marks (tree_by xs (length marks) t) out out' r) g
+          (subst (λ (ms : List ℕ). Returned ms (tree_by found (length marks) t) out out' r) marks_first R)
 
-    pub ordered : ((t : Tree) (p : ℕ) → list ≡ postfix t → Gathered (is_in marks) t p → ⊥) → Ordered list (take count found) (length marks)
-    unfolding all
-    ordered n =
-        let rest = (collect_begins marks (leaves t₀)).0 in
-        let S = distinct_split marks rest (subst Distinct begins all_distinct) in
-        let in_all : (g : ℕ) → is_in rest g ≡ true → is_in all g ≡ true = λ g e. ap (λ (xs : List ℕ). is_in xs g) begins ∙ in_right marks rest g e in
-        let P : MarkedParts (is_in marks) marks rest = record {
-          marks = S.first;
-          others = S.second;
-          marked = λ g e. e;
-          unmarked = S.apart;
-          mark_groups = mark_groups;
-          other_groups = λ g e. leaves_groups t₀ g (sym (groups_leaves t₀ g) ∙ all_own g (in_all g e));
-          some_mark = f.some_mark;
-        } in
-        record {
-          within = omega (arith, ap length all_found, ap length begins, length-append marks rest);
-          most = omega (arith, ap length all_found, all_few);
-          parts = subst (λ (xs : List ℕ). MarkedParts (is_in (take (length marks) (take count found))) (take (length marks) (take count found)) xs) (sym rest_is)
-              (subst (λ (xs : List ℕ). MarkedParts (is_in xs) xs rest) (sym marks_first) P);
-          over = λ t e. subst (λ (xs : List ℕ). Over (is_in xs) t) (sym all_found) (subst (Over (is_in all)) (sym (same_tree t e)) (over_collect marks t₀));
-          own = λ t e g h. subst (λ (x : Tree). is_in (groups x) g ≡ true) (sym (same_tree t e)) (all_own g (subst (λ (xs : List ℕ). is_in xs g ≡ true) all_found h));
-          not_gathered_lem = λ t p e g. n t p e (subst (λ (xs : List ℕ). Gathered (is_in xs) t p) marks_first g);
-        }
+      pub ordered : ((t : Tree) (p : ℕ) → list ≡ postfix t → Gathered (is_in marks) t p → ⊥) → Ordered list found (length marks)
+      unfolding all
+      ordered n =
+          let rest = (collect_begins marks (leaves t₀)).0 in
+          let S = distinct_split marks rest (subst Distinct begins all_distinct) in
+          let in_all : (g : ℕ) → is_in rest g ≡ true → is_in all g ≡ true = λ g e. ap (λ (xs : List ℕ). is_in xs g) begins ∙ in_right marks rest g e in
+          let P : MarkedParts (is_in marks) marks rest = record {
+            marks = S.first;
+            others = S.second;
+            marked = λ g e. e;
+            unmarked = S.apart;
+            mark_groups = mark_groups;
+            other_groups = λ g e. leaves_groups t₀ g (sym (groups_leaves t₀ g) ∙ all_own g (in_all g e));
+            some_mark = f.some_mark;
+          } in
+          record {
+            within = omega (arith, ap length found_is, ap length begins, length-append marks rest);
+            most = omega (arith, ap length found_is, all_few);
+            parts = subst (λ (xs : List ℕ). MarkedParts (is_in (take (length marks) found)) (take (length marks) found) xs) (sym rest_is)
+                (subst (λ (xs : List ℕ). MarkedParts (is_in xs) xs rest) (sym marks_first) P);
+            over = λ t e. subst (λ (xs : List ℕ). Over (is_in xs) t) (sym found_is) (subst (Over (is_in all)) (sym (same_tree t e)) (over_collect marks t₀));
+            own = λ t e g h. subst (λ (x : Tree). is_in (groups x) g ≡ true) (sym (same_tree t e)) (all_own g (subst (λ (xs : List ℕ). is_in xs g ≡ true) found_is h));
+            not_gathered_lem = λ t p e g. n t p e (subst (λ (xs : List ℕ). Gathered (is_in xs) t p) marks_first g);
+          }
 
 -- ---- a tree that is gathered already
 pub copied : {list marks out out' : List ℕ} {n k : ℕ} (t : Tree) → tree_of list ≡ some t → most_nodes ≤ length out → Wrote out 0 out' n list → Names (status (is_in marks) 0 t) k
@@ -451,16 +426,6 @@ copied {list} {marks} {out} {out'} {n} {k} t e s w named =
     }
 
 pub copied_returned : {list marks out out' : List ℕ} {n k : ℕ} (t : Tree) → tree_of list ≡ some t → most_nodes ≤ length out → Wrote out 0 out' n list → Names (status (is_in marks) 0 t) k
-    → Returned marks (gathered_by t marks) out out' (Done n k)
+    → Returned marks (gathered_by t marks) out out' (Ok (record { nodes = n; holder = k }))
 unfolding copied
-copied_returned t q s w (inl e) = returned_as t (Held _) e (returned_tree (copied t q s w (inl e)) refl)
-copied_returned t q s w (inr e) = returned_as t (All _) e (returned_tree (copied t q s w (inr e)) refl)
-
--- ---- statuses differ
-pub not_free : (k : ℕ) → Names Free k → ⊥
-not_free k (inl e) = let z : ◌≡◌ {A = ℕ} 0 1 = cc in omega arith
-not_free k (inr e) = let z : ◌≡◌ {A = ℕ} 0 1 = cc in omega arith
-
-pub not_mixed : (k : ℕ) → Names Mixed k → ⊥
-not_mixed k (inl e) = let z : ◌≡◌ {A = ℕ} 0 1 = cc in omega arith
-not_mixed k (inr e) = let z : ◌≡◌ {A = ℕ} 0 1 = cc in omega arith
+copied_returned t q s w e = returned_given t _ e (returned_tree (copied t q s w e) refl)

@@ -1,18 +1,30 @@
 -- What gathering answers and leaves: the contract of `gather`.
-use Rattle.std.specs.Prelude.{◌≡◌, Bool, false, not, cond, ◌||◌, List, [], ◌∷◌, ℕ, ◌≤◌, eqb, ltb, length}
+use Rattle.std.specs.Prelude.{◌≡◌, Bool, false, not, cond, ◌||◌, List, [], ◌∷◌, ℕ, ◌≤◌, eqb, ltb, length, Result, Ok, Err}
 use Rattle.std.proofs.Math.Option.{Option, some, none}
 use Rattle.common.specs.Answer.{Answer, done, refused_with}
 use Rattle.tree.specs.Tree.{Tree, postfix, size, most_nodes, Over, WithoutIntersection, Equivalent, is_in, groups, most_groups}
 use Rattle.tree.specs.Parse.{tree_of}
 use Rattle.tree.specs.Writing.{over}
 use Rattle.gather.specs.Gathering.{Gathered, CannotBeGathered}
-use Rattle.gather.specs.declared.Gathering.{Gathering}
-use Rattle.gather.specs.declared.Gathering.TheVariants.{Done, Refused}
+use Rattle.gather.specs.declared.GatheredTree.{GatheredTree}
+use Rattle.gather.specs.declared.Refusal.{Refusal}
+use Rattle.gather.specs.declared.Refusal.TheVariants.{ShortBuffer, NotATree, TooManyGroups, BadMarks, CannotBeGathered as Cannot}
 
 -- ---- 01's number and values for each answer: "Gathering answers that tree's length and the holder's position"; or the number
+-- what the call answers: the tree that is written, or why there is none
+abbrev pub Gathering : Type 0
+Gathering = Result GatheredTree Refusal
+
+abbrev pub refusal_number : Refusal → ℕ
+refusal_number ShortBuffer = 11
+refusal_number NotATree = 12
+refusal_number TooManyGroups = 17
+refusal_number BadMarks = 18
+refusal_number Cannot = 19
+
 abbrev pub gathering_says : Gathering → Answer
-gathering_says (Done nodes holder) = done (nodes ∷ holder ∷ [])
-gathering_says (Refused number) = refused_with number
+gathering_says (Ok tree) = done (tree.nodes ∷ tree.holder ∷ [])
+gathering_says (Err refusal) = refused_with (refusal_number refusal)
 
 -- ---- "Gathering refuses, buffer unchanged: 11; 12; 17 ..; 18 ..": the first fault, 0 if there is none
 -- "a mark twice, or one not in the tree", whose groups are gs
@@ -53,8 +65,8 @@ pub record GatheredTo (t : Tree) (marks out out' : List ℕ) (nodes holder : ℕ
 -- where nothing is at fault: such a tree's length and its holder's position are answered and the tree is in the buffer, or
 -- "19 exactly when no gathered equivalent tree exists", "buffer unchanged"
 unfoldable pub GathersTree : Tree → List ℕ → List ℕ → List ℕ → Gathering → Type 0
-GathersTree t marks out out' (Done nodes holder) = GatheredTo t marks out out' nodes holder
-GathersTree t marks out out' (Refused n) = (n ≡ 19) × (out' ≡ out) × CannotBeGathered (is_in marks) t
+GathersTree t marks out out' (Ok tree) = GatheredTo t marks out out' tree.nodes tree.holder
+GathersTree t marks out out' (Err refusal) = (refusal_number refusal ≡ 19) × (out' ≡ out) × CannotBeGathered (is_in marks) t
 
 -- what `gather` promises for any list, any marks and any buffer: the first fault's number, buffer unchanged;
 -- and where there is none, the above for the tree that the list is

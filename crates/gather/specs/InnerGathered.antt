@@ -10,8 +10,7 @@ use Rattle.table.specs.InnerTable.{table, rows_of}
 use Rattle.columns.specs.InnerChoosing.{choice}
 use Rattle.columns.specs.InnerJoining.{tree_for}
 use Rattle.holding.specs.InnerHolding.{status}
-use Rattle.gather.specs.Answer.{gathering_says, gather_fault}
-use Rattle.gather.specs.declared.Gathering.{Gathering}
+use Rattle.gather.specs.Answer.{Gathering, gathering_says, gather_fault}
 use Rattle.holding.specs.declared.Status.{Status}
 use Rattle.holding.specs.declared.Status.TheVariants.{Free, Mixed, All, Held}
 

@@ -4,7 +4,6 @@
 // tree's first entries.
 #![tactic(auto)]
 
-use gather::Gathering;
 use std::io;
 use tree::{DIFFERENCE, INTERSECTION, UNION};
 
@@ -12,47 +11,25 @@ const BEFORE: u16 = 61000;
 
 // Whether the numbers from index `from` on are as before.
 fn unchanged(out: &[u16], from: usize) -> bool {
-    for i in from..out.len() {
-        if out[i] != BEFORE {
-            return false;
-        }
-    }
-    true
-}
-
-// Whether two lists are the same.
-fn same(a: &[u16], b: &[u16]) -> bool {
-    if a.len() != b.len() {
-        return false;
-    }
-    for i in 0..a.len() {
-        if a[i] != b[i] {
-            return false;
-        }
-    }
-    true
+    out.iter().skip(from).all(|x| *x == BEFORE)
 }
 
 // Goes on from index 1 to the end with group 2 and a union in turn.
 fn chain(list: &mut [u16]) {
     let mut next = 2;
-    for i in 1..list.len() {
-        list[i] = next;
+    for x in list.iter_mut().skip(1) {
+        *x = next;
         next = if next == 2 { UNION } else { 2 };
     }
 }
 
 fn print_entry(rt: &impl Print, x: u16) -> io::Result<()> {
-    if x == UNION {
-        return rt.write_all(b" U");
+    match x {
+        UNION => rt.write_all(b" U"),
+        DIFFERENCE => rt.write_all(b" D"),
+        INTERSECTION => rt.write_all(b" I"),
+        _ => print!(rt; " {x}"),
     }
-    if x == DIFFERENCE {
-        return rt.write_all(b" D");
-    }
-    if x == INTERSECTION {
-        return rt.write_all(b" I");
-    }
-    print!(rt; " {x}")
 }
 
 // The first entries of a tree of this length, at most seven.
@@ -88,14 +65,13 @@ fn show_in(
     out: &mut [u16],
 ) -> io::Result<()> {
     rt.write_all(label)?;
-    let answer = gather::gather(tree, marks, out);
-    match answer {
-        Gathering::Done { nodes, holder } => {
-            print_numbers(rt, 0, nodes, holder)?;
-            print_buffer(rt, out, nodes)
+    match gather::gather(tree, marks, out) {
+        Ok(gathered) => {
+            print_numbers(rt, 0, gathered.nodes, gathered.holder)?;
+            print_buffer(rt, out, gathered.nodes)
         }
-        Gathering::Refused(number) => {
-            print_numbers(rt, number, 0, 0)?;
+        Err(refusal) => {
+            print_numbers(rt, u16::from(refusal), 0, 0)?;
             print_buffer(rt, out, 0)
         }
     }
@@ -208,7 +184,7 @@ fn long_trees(rt: &impl Print) -> io::Result<()> {
     chain(&mut list);
     let mut out = [BEFORE; 8191];
     show_in(rt, b"8191 nodes, gathered already", &list, &[1], &mut out)?;
-    if same(&out, &list) {
+    if out == list {
         rt.write_all(b"came back unchanged\n")?;
     }
     show(rt, b"8191 nodes", &list, &[2])

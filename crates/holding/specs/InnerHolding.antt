@@ -1,5 +1,5 @@
 -- Whether a tree is gathered already, and its holder's position, by one pass. `gather` proofs/HoldingLaws.antt says that this is `Gathered`.
-use Rattle.std.specs.Prelude.{Bool, cond, ℕ, T}
+use Rattle.std.specs.Prelude.{Bool, cond, ℕ, T, Option, Some, None}
 use Rattle.tree.specs.Tree.{Operator, Tree, is_group}
 use Rattle.tree.specs.InnerPass.{fold}
 use Rattle.holding.specs.declared.Status.{Status}
@@ -11,6 +11,13 @@ merged i Mixed b = Mixed
 merged i Free b = elim b [ Free ↦ Free | Mixed ↦ Mixed | All k ↦ Held k | Held k ↦ Held k ]
 merged i (All j) b = elim b [ Free ↦ Held j | Mixed ↦ Mixed | All k ↦ All i | Held k ↦ Mixed ]
 merged i (Held j) b = elim b [ Free ↦ Held j | Mixed ↦ Mixed | All k ↦ Mixed | Held k ↦ Mixed ]
+
+-- the holder's position that a status names, if it names one
+abbrev pub holder : Status → Option ℕ
+holder Free = None
+holder Mixed = None
+holder (All k) = Some k
+holder (Held k) = Some k
 
 -- of a leaf at i
 abbrev pub status_of : Bool → ℕ → Status

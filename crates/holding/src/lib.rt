@@ -4,7 +4,7 @@
 ghost use Rattle.std.specs.Prelude.{◌≡◌};
 ghost use Rattle.tree.specs.Tree.{Tree, postfix, is_in};
 ghost use Rattle.table.specs.InnerTable.{Listed};
-ghost use Rattle.holding.specs.InnerHolding.{merged, status_of, status};
+ghost use Rattle.holding.specs.InnerHolding.{holder, merged, status_of, status};
 
 // Of a part of the tree: no leaf is marked; all are, its root at the position; gathered, the holder at the position; none of these.
 #[derive(Clone, Copy)]
@@ -15,30 +15,28 @@ pub enum Status {
     Held(usize),
 }
 
+impl Status {
+    // The holder's position, where the status names one.
+    pub fn holder(self) -> Option<usize>
+        ensures { result ≡ holder self }
+    {
+        match self {
+            Status::Free | Status::Mixed => None,
+            Status::All(at) | Status::Held(at) => Some(at),
+        }
+    }
+}
+
 // The status of a node at a position, by its operands'.
 fn merge(a: Status, b: Status, at: usize) -> Status
     ensures { result ≡ merged at a b }
 {
-    match a {
-        Status::Mixed => Status::Mixed,
-        Status::Free => match b {
-            Status::Free => Status::Free,
-            Status::Mixed => Status::Mixed,
-            Status::All(k) => Status::Held(k),
-            Status::Held(k) => Status::Held(k),
-        },
-        Status::All(j) => match b {
-            Status::Free => Status::Held(j),
-            Status::Mixed => Status::Mixed,
-            Status::All(_) => Status::All(at),
-            Status::Held(_) => Status::Mixed,
-        },
-        Status::Held(j) => match b {
-            Status::Free => Status::Held(j),
-            Status::Mixed => Status::Mixed,
-            Status::All(_) => Status::Mixed,
-            Status::Held(_) => Status::Mixed,
-        },
+    match (a, b) {
+        (Status::Free, Status::Free) => Status::Free,
+        (Status::Free, Status::All(k) | Status::Held(k)) => Status::Held(k),
+        (Status::All(j) | Status::Held(j), Status::Free) => Status::Held(j),
+        (Status::All(_), Status::All(_)) => Status::All(at),
+        _ => Status::Mixed,
     }
 }
 
@@ -47,9 +45,10 @@ fn leaf_status(marks: &[u16], at: usize, x: u16) -> Status
     ensures { result ≡ status_of (is_in marks.now x) at }
 {
     if tree::is_in(marks, x) {
-        return Status::All(at);
+        Status::All(at)
+    } else {
+        Status::Free
     }
-    Status::Free
 }
 
 // The status of the whole tree.
@@ -57,23 +56,17 @@ pub fn holding(list: &[u16], marks: &[u16]) -> Status
     requires { Listed list.now }
     ensures { (t : Tree) → list.now ≡ postfix t → result ≡ status (is_in marks.now) 0 t }
 {
+    // An array and its count, in fixed memory: a Vec could fail, and this answers for every tree.
     let mut stack = [Status::Free; tree::MOST_NODES];
     let mut top: usize = 0;
-    let mut i = 0;
-    while i < list.len() {
-        let x = list[i];
-        if x < tree::UNION {
-            let value = leaf_status(marks, i, x);
-            stack[top] = value;
+    for (at, x) in list.iter().enumerate() {
+        if *x < tree::UNION {
+            stack[top] = leaf_status(marks, at, *x);
             top += 1;
-            i += 1;
         } else {
-            let b = stack[top - 1];
-            let a = stack[top - 2];
-            let value = merge(a, b, i);
-            stack[top - 2] = value;
-            top -= 1;
-            i += 1;
+            let left = top - 2;
+            stack[left] = merge(stack[left], stack[left + 1], at);
+            top = left + 1;
         }
     }
     stack[0]

@@ -13,7 +13,8 @@ pub fn has_argument(rt: &impl Env, i: usize) -> bool {
     !matches!(rt.arg(i, &mut []), Err(FillError::NotPresent))
 }
 
-// Reads until the buffer is full, the input ends or a read fails, and returns how many bytes it put at the buffer's start.
+// Reads until the buffer is full, the input ends or a read fails, and returns how many bytes it put at the buffer's start. The loop goes on
+// by what each read gives.
 pub fn read_full<R: Read>(reader: &mut R, bytes: &mut [u8]) -> usize
     ensures { IsPrefixLen result bytes.new }
 {

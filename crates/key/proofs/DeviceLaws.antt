@@ -5,15 +5,14 @@ use mathlib.Core.List.{List, [], ◌++◌}
 use Prim.Native.Nat.{ℕ, ◌+◌, ◌*◌, ◌≤◌}
 use native.Mathlib.Omega.{arith}
 use lib.ListN.{length, drop}
+use Rattle.std.specs.Prelude.{Ok}
 use Rattle.tree.specs.Tree.{Tree, size, most_nodes, selected}
 use Rattle.tree.specs.Context.{Frame, plug}
 use Rattle.text.specs.Line.{lines}
 use Rattle.player.specs.Limits.{byte_count}
 use Rattle.player.specs.Patches.{rig}
 use Rattle.player.specs.Bytes.{bytes}
-use Rattle.player.specs.Playing.{wrong_pair_count, wrong_patch}
-use Rattle.player.specs.declared.Played.{Played}
-use Rattle.player.specs.declared.Played.TheVariants.{Done}
+use Rattle.player.specs.Playing.{wrong_pair_count, wrong_patch, Played}
 use Rattle.player.proofs.InstructionLaws as newer-laws
 use Rattle.older_player.proofs.InstructionLaws as older-laws
 use Rattle.code.specs.Devices as coding
@@ -49,7 +48,7 @@ pub record Lawful (d : Device) : Type 0 where
   pub text_most : (t : Tree) → size t ≤ most_nodes → length (lines (instruction_rows (row_for d) (code_for d t))) ≤ code_bytes
   pub lights : (t : Tree) → size t ≤ most_nodes → (patch lamps : List ℕ) → wrong_pair_count (length patch) ≡ false → wrong_patch patch ≡ false → byte_count ≤ length lamps
       → (r : Played) (after : List ℕ) → PlaysFor d (numbers_for d (code_for d t)) patch lamps r after
-      → (r ≡ Done) × (after ≡ bytes (selected (rig patch) t) ++ drop byte_count lamps)
+      → (r ≡ Ok tt) × (after ≡ bytes (selected (rig patch) t) ++ drop byte_count lamps)
 
 pub lawful : (d : Device) → Lawful d
 lawful Newer = record {

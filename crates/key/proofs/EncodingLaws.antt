@@ -13,8 +13,8 @@ use Rattle.tree.proofs.ParseLaws.{IsTree, tree_of_sound}
 use Rattle.text.specs.Line.{Row, lines}
 use Rattle.coder.specs.Coding as newer-coder
 use Rattle.older_coder.specs.Coding as older-coder
-use Rattle.coder.specs.declared.Coded.{Coded}
-use Rattle.coder.specs.declared.Coded.TheVariants.{Done, Refused}
+use Rattle.std.proofs.Common.{Result, Ok, Err}
+use Rattle.coder.specs.declared.Refusal.{Refusal}
 use Rattle.coder.proofs.CodingLaws.{encodes_tree, encodes_none}
 use Rattle.printing.specs.Key.{instruction_rows}
 use Rattle.printing.specs.declared.Device.{Device}
@@ -32,20 +32,20 @@ pub record Encoded (d : Device) (list : List ℕ) (count : ℕ) (after : List �
   pub room : length (code_text d (take (4 * count) after)) ≤ code_bytes
 
 -- the call is done, and the code is written
-record Left (d : Device) (u : Tree) (out : List ℕ) (r : Coded) (after : List ℕ) : Type 0 where
-  pub done : r ≡ Done (length (code_for d u))
-  pub never : (k : ℕ) → r ≡ Refused k → ⊥
+record Left (d : Device) (u : Tree) (out : List ℕ) (r : Result ℕ Refusal) (after : List ℕ) : Type 0 where
+  pub done : r ≡ Ok (length (code_for d u))
+  pub never : (k : Refusal) → r ≡ Err k → ⊥
   pub written : after ≡ over (numbers_for d (code_for d u)) out
 
-left : (d : Device) (tree out : List ℕ) (r : Coded) (after : List ℕ) (u : Tree) → tree_of tree ≡ some u → 32768 ≤ length out → EncodesFor d tree out r after → Left d u out r after
+left : (d : Device) (tree out : List ℕ) (r : Result ℕ Refusal) (after : List ℕ) (u : Tree) → tree_of tree ≡ some u → 32768 ≤ length out → EncodesFor d tree out r after → Left d u out r after
 left Newer tree out r after u e h E = let T = encodes_tree newer-coder.least_buffer _ _ E e (omega arith) in record { done = T.done; never = T.never; written = T.written }
 left Older tree out r after u e h E = let T = encodes_tree older-coder.least_buffer _ _ E e h in record { done = T.done; never = T.never; written = T.written }
 
-not_done : (d : Device) (tree out : List ℕ) (r : Coded) (after : List ℕ) → tree_of tree ≡ none → 32768 ≤ length out → EncodesFor d tree out r after → (n : ℕ) → r ≡ Done n → ⊥
+not_done : (d : Device) (tree out : List ℕ) (r : Result ℕ Refusal) (after : List ℕ) → tree_of tree ≡ none → 32768 ≤ length out → EncodesFor d tree out r after → (n : ℕ) → r ≡ Ok n → ⊥
 not_done Newer tree out r after e h E = encodes_none newer-coder.least_buffer _ _ E e (omega arith)
 not_done Older tree out r after e h E = encodes_none older-coder.least_buffer _ _ E e h
 
-module _ (d : Device) (tree out : List ℕ) (r : Coded) (after : List ℕ) (full : 32768 ≤ length out) (E : EncodesFor d tree out r after) where
+module _ (d : Device) (tree out : List ℕ) (r : Result ℕ Refusal) (after : List ℕ) (full : 32768 ≤ length out) (E : EncodesFor d tree out r after) where
   module _ (I : IsTree tree) where
     abbrev u : Tree
     u = I.tree
@@ -64,10 +64,10 @@ module _ (d : Device) (tree out : List ℕ) (r : Coded) (after : List ℕ) (full
     long_is : 4 * length (code_for d u) ≤ length after
     long_is = rw of_tree.written (omega (arith, length-append numbers (drop (length numbers) out), (lawful d).numbered (code_for d u)))
 
-    same_count : (n : ℕ) → r ≡ Done n → n ≡ length (code_for d u)
-    same_count n e = let f : Done n ≡ Done (length (code_for d u)) = sym e ∙ of_tree.done in cc
+    same_count : (n : ℕ) → r ≡ Ok n → n ≡ length (code_for d u)
+    same_count n e = let f : Ok n ≡ Ok (length (code_for d u)) = sym e ∙ of_tree.done in cc
 
-    tree_encoded : (n : ℕ) → r ≡ Done n → Encoded d tree n after
+    tree_encoded : (n : ℕ) → r ≡ Ok n → Encoded d tree n after
     tree_encoded n e =
         let s = same_count n e in
         record {
@@ -77,7 +77,7 @@ module _ (d : Device) (tree out : List ℕ) (r : Coded) (after : List ℕ) (full
           room = rw (s, text_is) ((lawful d).text_most u I.most);
         }
 
-  pub encoded : (n : ℕ) → r ≡ Done n → Encoded d tree n after
+  pub encoded : (n : ℕ) → r ≡ Ok n → Encoded d tree n after
   encoded n e = go (tree_of tree) refl
     where
       go : (o : Option Tree) → tree_of tree ≡ o → Encoded d tree n after
@@ -85,7 +85,7 @@ module _ (d : Device) (tree out : List ℕ) (r : Coded) (after : List ℕ) (full
       go (some t) q = tree_encoded (tree_of_sound tree t q) n e
 
   -- it is refused only where the list is no tree, and then there is no code
-  pub not_encoded : (k : ℕ) → r ≡ Refused k → code_lines d tree ≡ []
+  pub not_encoded : (k : Refusal) → r ≡ Err k → code_lines d tree ≡ []
   unfolding lines instruction_rows
   not_encoded k f = go (tree_of tree) refl
     where

@@ -7,6 +7,7 @@ use Prim.Native.Nat.{ℕ, ◌+◌, ◌≤◌, ◌<◌}
 use native.Mathlib.Omega.{arith}
 use borrow.Author.Tests.{lt-ltb}
 use lib.ListN.{length, take, drop, length-append}
+use Rattle.std.specs.Prelude.{Ok, Err}
 use Rattle.tree.specs.Tree.{Tree, postfix, size, most_nodes, is_in}
 use Rattle.tree.specs.Parse.{tree_of, locate}
 use Rattle.tree.specs.Writing.{over}
@@ -22,10 +23,10 @@ use Rattle.coder.specs.Coding.{code_of_list, run_of}
 use Rattle.coder.specs.declared.Run.{Run}
 use Rattle.code.proofs.RunLaws.{before_most}
 use Rattle.gather.specs.Gathering.{Gathered, CannotBeGathered}
-use Rattle.gather.specs.Answer.{gather_fault, GatheredTo, GathersTree, Gathers}
+use Rattle.gather.specs.Answer.{Gathering, refusal_number, gather_fault, GatheredTo, GathersTree, Gathers}
 use Rattle.gather.specs.InnerGathered.{gathered_by, holder_of, Returned, GathersBy}
-use Rattle.gather.specs.declared.Gathering.{Gathering}
-use Rattle.gather.specs.declared.Gathering.TheVariants.{Done, Refused}
+use Rattle.gather.specs.declared.GatheredTree.{GatheredTree}
+use Rattle.gather.specs.declared.Refusal.{Refusal}
 use Rattle.gather.proofs.GatheredLaws.{holder_of_lem, named_tree, named_none}
 use Rattle.printing.specs.declared.Device.{Device}
 use Rattle.key.specs.Devices.{InstructionOf, code_for, row_for}
@@ -90,7 +91,7 @@ pub record NamedTo (u : Tree) (marks out out' : List ℕ) (count holder : ℕ) :
   pub to : GatheredTo u marks out out' count holder
   pub is : gathered_by u marks ≡ some to.result
 
-module _ (list marks out out' : List ℕ) (r : Gathering) (u : Tree) (w : IsList list u) (M : Markable u marks) (some_mark : 1 ≤ length marks) (full : most_nodes ≤ length out)
+module _ {list marks out out' : List ℕ} {r : Gathering} (u : Tree) (w : IsList list u) (M : Markable u marks) (some_mark : 1 ≤ length marks) (full : most_nodes ≤ length out)
     (G : Gathers list marks out out' r × GathersBy list marks out out' r) where
   fault_none : gather_fault list marks (length out) ≡ 0
   fault_none = ap (λ (l : List ℕ). gather_fault l marks (length out)) w.list ∙ no_fault u marks (length out) w.most full some_mark M
@@ -104,15 +105,17 @@ module _ (list marks out out' : List ℕ) (r : Gathering) (u : Tree) (w : IsList
   returned : Returned marks (gathered_by u marks) out out' r
   returned = G.1.by fault_none u is_tree
 
-  pub gathered_never : (n : ℕ) → r ≡ Refused n → CannotBeGathered (is_in marks) u × (gathered_by u marks ≡ none)
+  -- refused: with 19, and no tree is named
+  pub gathered_never : (refusal : Refusal) → r ≡ Err refusal → (refusal_number refusal ≡ 19) × CannotBeGathered (is_in marks) u × (gathered_by u marks ≡ none)
   unfolding GathersTree
-  gathered_never n e =
-      ((subst (GathersTree u marks out out') e gathers).2, named_none (gathered_by u marks) (subst (Returned marks (gathered_by u marks) out out') e returned))
+  gathered_never refusal e =
+      let never = subst (GathersTree u marks out out') e gathers in
+      (never.0, never.2, named_none (gathered_by u marks) (subst (Returned marks (gathered_by u marks) out out') e returned))
 
-  pub gathered_done : (count holder : ℕ) → r ≡ Done count holder → NamedTo u marks out out' count holder
+  pub gathered_done : (tree : GatheredTree) → r ≡ Ok tree → NamedTo u marks out out' tree.nodes tree.holder
   unfolding GathersTree
-  gathered_done count holder e =
-      let D : GatheredTo u marks out out' count holder = subst (GathersTree u marks out out') e gathers in
+  gathered_done tree e =
+      let D : GatheredTo u marks out out' tree.nodes tree.holder = subst (GathersTree u marks out out') e gathers in
       record { to = D; is = named_tree D (gathered_by u marks) (subst (Returned marks (gathered_by u marks) out out') e returned) }
 
 -- the gathered tree's list stands at the front

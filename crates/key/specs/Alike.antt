@@ -1,10 +1,8 @@
 -- Two keys of one sheet, by any tables and for any devices: what requests 7 and 8 of 02 claim of them.
-use Rattle.std.specs.Prelude.{◌≡◌, false, List, [], ℕ, ◌≤◌, length}
+use Rattle.std.specs.Prelude.{◌≡◌, false, List, [], ℕ, ◌≤◌, length, Ok}
 use Rattle.common.specs.Exactly.{Exactly}
 use Rattle.player.specs.Limits.{byte_count}
-use Rattle.player.specs.Playing.{wrong_pair_count, wrong_patch}
-use Rattle.player.specs.declared.Played.{Played}
-use Rattle.player.specs.declared.Played.TheVariants.{Done}
+use Rattle.player.specs.Playing.{wrong_pair_count, wrong_patch, Played}
 use Rattle.printing.specs.Key.{Key, refusal, answers, cannot}
 use Rattle.printing.specs.declared.Device.{Device}
 use Rattle.key.specs.Devices.{InstructionOf, numbers_for, PlaysFor}
@@ -26,7 +24,7 @@ pub record Alike (d e : Device) (k : Key (InstructionOf d)) (l : Key (Instructio
   pub verdict : Exactly (SaysCannot k) (SaysCannot l)
   pub lamps : (SaysCannot k → ⊥) → (patch bytes : List ℕ) → wrong_pair_count (length patch) ≡ false → wrong_patch patch ≡ false → byte_count ≤ length bytes
       → (r s : Played) (after after' : List ℕ) → PlaysFor d (numbers_for d (instructions_of k)) patch bytes r after → PlaysFor e (numbers_for e (instructions_of l)) patch bytes s after'
-      → (r ≡ Done) × (s ≡ Done) × (after ≡ after')
+      → (r ≡ Ok tt) × (s ≡ Ok tt) × (after ≡ after')
 
 -- Request 8: "A second key program, otherwise alike": the lines before the code are the same, the `NO` line, or the `LIFT` and `HELD` lines
 abbrev pub SameLines : {I J : Type 0} → Key I → Key J → Type 0

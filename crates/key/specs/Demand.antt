@@ -1,12 +1,10 @@
 -- The third demand, as one statement about the whole list of lifts of an accepted sheet, an empty one too.
-use Rattle.std.specs.Prelude.{◌≡◌, false, List, [], ◌++◌, ℕ, ◌≤◌, ◌<◌, length, drop}
+use Rattle.std.specs.Prelude.{◌≡◌, false, List, [], ◌++◌, ℕ, ◌≤◌, ◌<◌, length, drop, Ok}
 use Rattle.tree.specs.Tree.{Tree, size, most_nodes, Over, Equivalent, selected, is_in, groups}
 use Rattle.player.specs.Limits.{register_count, byte_count}
 use Rattle.player.specs.Patches.{rig}
 use Rattle.player.specs.Bytes.{bytes}
-use Rattle.player.specs.Playing.{wrong_pair_count, wrong_patch}
-use Rattle.player.specs.declared.Played.{Played}
-use Rattle.player.specs.declared.Played.TheVariants.{Done}
+use Rattle.player.specs.Playing.{wrong_pair_count, wrong_patch, Played}
 use Rattle.code.specs.Effects.{Every, Names, stretch, ClosedRun, LoadsApart}
 use Rattle.code.specs.Runs.{run_first, run_count}
 use Rattle.gather.specs.Gathering.{Gathered, CannotBeGathered}
@@ -49,7 +47,7 @@ abbrev pub Lights : (d : Device) → Tree → List (InstructionOf d) → Type 0
 Lights d t is =
     (patch lamps : List ℕ) → wrong_pair_count (length patch) ≡ false → wrong_patch patch ≡ false → byte_count ≤ length lamps
     → (r : Played) (after : List ℕ) → PlaysFor d (numbers_for d is) patch lamps r after
-    → (r ≡ Done) × (after ≡ bytes (selected (rig patch) t) ++ drop byte_count lamps)
+    → (r ≡ Ok tt) × (after ≡ bytes (selected (rig patch) t) ++ drop byte_count lamps)
 
 -- of a key by a move table that is not a refusal: its lifts, its HELD line and its instructions, for the tree t as written, the marks and the lifts
 pub record Demand3 (d : Device) (m : MoveTable) (t : Tree) (marks : List ℕ) (ls : List LiftLine) (done : List LiftAnswer) (held : Held) (is : List (InstructionOf d)) : Type 0 where

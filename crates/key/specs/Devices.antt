@@ -3,7 +3,7 @@ use Rattle.std.specs.Prelude.{◌≡◌, Bool, List, ℕ}
 use Rattle.tree.specs.Tree.{Tree}
 use Rattle.text.specs.Line.{Row}
 use Rattle.player.specs.Instructions as newer
-use Rattle.player.specs.declared.Played.{Played}
+use Rattle.player.specs.Playing.{Played}
 use Rattle.player.specs.Playing as newer-player
 use Rattle.older_player.specs.Instructions as older
 use Rattle.older_player.specs.Playing as older-player

@@ -1,5 +1,5 @@
 -- What the functions of this crate ask and promise each other. Only their contracts cite this.
-use Rattle.std.specs.Prelude.{◌≡◌, true, List, [], ◌++◌, ℕ, ◌+◌, ◌≤◌, length, take}
+use Rattle.std.specs.Prelude.{◌≡◌, true, List, [], ◌++◌, ℕ, ◌+◌, ◌≤◌, length, take, Result}
 use Rattle.tree.specs.Tree.{Tree, most_nodes, most_groups, is_in, groups}
 use Rattle.tree.specs.Parse.{tree_of}
 use Rattle.tree.specs.InnerGroups.{Distinct}
@@ -7,7 +7,7 @@ use Rattle.tree.specs.InnerWriting.{Wrote}
 use Rattle.text.specs.Line.{lines}
 use Rattle.gather.specs.Gathering.{CannotBeGathered}
 use Rattle.moves.specs.Moves.{MoveTable}
-use Rattle.sheet.specs.Reading.{ReadingState, ReadingOutcome, accepted, reading, sheet_of}
+use Rattle.sheet.specs.Reading.{ReadingState, ReadingOutcome, accepted, reading, sheet_with}
 use Rattle.sheet.specs.declared.Sheet.{Sheet}
 use Rattle.printing.specs.Key.{Held, unmarked, held_run, cannot, held_rows, instruction_rows}
 use Rattle.lift_lines.specs.Inner.{IsList}
@@ -17,7 +17,7 @@ use Rattle.printing.specs.declared.Device.TheVariants.{Newer, Older}
 use Rattle.coder.specs.Coding as newer-coder
 use Rattle.coder.specs.Coding.{code_of_list}
 use Rattle.older_coder.specs.Coding as older-coder
-use Rattle.coder.specs.declared.Coded.{Coded}
+use Rattle.coder.specs.declared.Refusal.{Refusal}
 use Rattle.key.specs.Devices.{InstructionOf, code_for, row_for}
 use Rattle.key.specs.Demand.{HeldCode}
 use Rattle.key.specs.Call.{key_bytes, KeyOf}
@@ -32,7 +32,7 @@ abbrev pub code_bytes : ℕ
 code_bytes = 114682
 
 -- what a device's coder promises
-abbrev pub EncodesFor : Device → (tree out : List ℕ) → Coded → List ℕ → Type 0
+abbrev pub EncodesFor : Device → (tree out : List ℕ) → Result ℕ Refusal → List ℕ → Type 0
 EncodesFor Newer tree out r after = newer-coder.Encodes tree out r after
 EncodesFor Older tree out r after = older-coder.Encodes tree out r after
 
@@ -79,7 +79,7 @@ pub record PutsHeld (tree : List ℕ) (nodes : ℕ) (marks out : List ℕ) (at :
 -- reading accepts the sheet with the state st, and answered so
 pub record ReadAs (sheet : List ℕ) (read : Sheet) (st : ReadingState) : Type 0 where
   pub accepts : reading sheet ≡ accepted st
-  pub answers : read ≡ sheet_of (accepted st)
+  pub answers : read ≡ sheet_with st
 
 -- the whole key of a sheet by a table, by what reading comes to
 pub record WroteKey (d : Device) (m : MoveTable) (o : ReadingOutcome) (out out' : List ℕ) (next : ℕ) : Type 0 where

@@ -1,6 +1,6 @@
 -- The very key that is written, a function of the sheet and the table. 01 leaves the gathered tree free, and with it the key; a reader need not
 -- believe a line of this: `KeyCall` says what a key must be.
-use Rattle.std.specs.Prelude.{◌≡◌, List, [], ◌∷◌, ℕ, ◌≤◌, length}
+use Rattle.std.specs.Prelude.{◌≡◌, List, [], ◌∷◌, ℕ, ◌≤◌, length, Result}
 use Rattle.std.proofs.Math.Option.{Option, some, none}
 use Rattle.common.specs.Answer.{done}
 use Rattle.tree.specs.Tree.{Tree}
@@ -18,7 +18,7 @@ use Rattle.lift_lines.specs.Lifting.{tree_after, lift_answers}
 use Rattle.printing.specs.declared.Device.{Device}
 use Rattle.key.specs.Devices.{InstructionOf, code_for, row_for}
 use Rattle.key.specs.Call.{key_bytes, key_says}
-use Rattle.key.specs.declared.KeyAnswer.{KeyAnswer}
+use Rattle.key.specs.declared.ShortBuffer.{ShortBuffer}
 
 -- ---- what follows the lifts, which leave the tree u
 -- "`HELD` 0 first count", of a run
@@ -73,5 +73,5 @@ unfoldable pub school_key_of : Device → (bytes sheet : List ℕ) → List ℕ
 school_key_of d bytes sheet = text (row_for d) (key_for_school d (table.loading bytes) (read_with sheet_rules sheet))
 
 -- where the buffer is long enough, it is these bytes that are written
-pub record KeyBy (bytes out : List ℕ) (r : KeyAnswer) (out' : List ℕ) : Type 0 where
+pub record KeyBy (bytes out : List ℕ) (r : Result ℕ ShortBuffer) (out' : List ℕ) : Type 0 where
   pub by : key_bytes ≤ length out → (key_says r ≡ some (done (length bytes ∷ []))) × (out' ≡ over bytes out)

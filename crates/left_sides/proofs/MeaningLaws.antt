@@ -1,6 +1,6 @@
 -- What formulas select under the sixteen fillings, value by value.
 use mathlib.Core.Path.{◌≡◌, refl, sym, ◌∙◌}
-use mathlib.Core.Bool.{Bool, true, false, ◌&&◌, beq, and-true, and_assoc}
+use mathlib.Core.Bool.{Bool, true, false, beq, and-true, and_assoc}
 use mathlib.Core.List.{List, [], ◌∷◌, ◌++◌, zip_with, append-nil, append_assoc}
 use Prim.Native.Nat.{ℕ, ◌+◌, ◌≤◌, ◌<◌}
 use native.Mathlib.Numerals.{add-one}
@@ -8,7 +8,8 @@ use lib.ListN.{length, get_or, set, take, drop, drop_of_length-le}
 use lib.Seq.{drop-cons, take-suc-set, take_all}
 use Rattle.tree.specs.Tree.{apply}
 use Rattle.words.specs.Formula.{Formula, agree}
-use Rattle.left_sides.specs.InnerKnown.{meaning, all_true, alike}
+use lib.Pointwise.{pointwise}
+use Rattle.left_sides.specs.InnerKnown.{meaning}
 
 -- by cases on a value
 pub either_value : {X : Type 0} (a : Bool) → (a ≡ true → X) → (a ≡ false → X) → X
@@ -34,18 +35,6 @@ module _ (f : Bool → Bool → Bool) (x y : List Bool) (k : ℕ) where
   unfolding zip_with
   zip_end h = rw (drop_of_length-le x h)
 
--- ---- the comparison
-module _ (x y : List Bool) (k : ℕ) (same : Bool) where
-  pub alike_more : k < length x → k < length y → (same && alike (drop k x) (drop k y)) ≡ alike x y
-      → (same && beq (get_or x k false) (get_or y k false) && alike (drop (k + 1) x) (drop (k + 1) y)) ≡ alike x y
-  unfolding all_true
-  alike_more h g p = simp and_assoc (rw (zip_more beq x y k h g) at p)
-
-  pub alike_end : length x ≤ k → (same && alike (drop k x) (drop k y)) ≡ alike x y → same ≡ alike x y
-  unfolding all_true
-  alike_end h p = sym (and-true same) ∙ (rw (zip_end beq x y k h) at p)
-
 -- formulas agree where they select the same
-pub agree_alike : (p q : Formula) → agree apply p q ≡ alike (meaning p) (meaning q)
-unfolding all_true zip_with
+pub agree_alike : (p q : Formula) → agree apply p q ≡ pointwise beq (meaning p) (meaning q)
 agree_alike p q = simp (and_assoc, and-true)

@@ -16,7 +16,7 @@ use Rattle.words.specs.Formula.{Formula, join}
 use Rattle.words.specs.Word.{operator_sign, Sign, part, operator, neither, sign_of, pushed, and_then, waiting, alone, formula_of}
 use Rattle.words.proofs.Cases.{first_true, second_true}
 use Rattle.left_sides.specs.declared.Known.{Known}
-use Rattle.left_sides.specs.InnerKnown.{known, if_known, PartIs}
+use Rattle.left_sides.specs.InnerKnown.{known, IsKnown, PartIs}
 
 -- the last of an array's first `top` values is what is known of p, and the others are as `below` says
 pub record OnTop (z : Known) (a : List Known) (p : Formula) (top : ℕ) (below : Type 0) : Type 0 where
@@ -136,10 +136,10 @@ module _ {z : Known} {w : List ℕ} {i : ℕ} {a : List Known} {top : ℕ} (R : 
       go (p ∷ []) k = absurd (n (omega (arith, k.others, k.there)))
       go (p ∷ (q ∷ ps)) k = refl
 
-  pub reading_end : length w ≤ i → top ≡ 1 → get_or a 0 z ≡ if_known (formula_of w)
-  reading_end h t = go R.formulas R.held ∙ ap if_known (all_read h)
+  pub reading_end : length w ≤ i → top ≡ 1 → IsKnown (formula_of w) (get_or a 0 z)
+  reading_end h t = go R.formulas R.held (all_read h)
     where
-      go : (ps : List Formula) → Held z a ps top → get_or a 0 z ≡ if_known (alone (some ps))
-      go [] k = absurd (omega arith)
-      go (p ∷ []) k = let f : top - 1 ≡ 0 = omega arith in rw f at k.is
-      go (p ∷ (q ∷ ps)) k = absurd (omega (arith, k.others.there))
+      go : (ps : List Formula) → Held z a ps top → alone (some ps) ≡ formula_of w → IsKnown (formula_of w) (get_or a 0 z)
+      go [] k e = absurd (omega arith)
+      go (p ∷ []) k e = let f : top - 1 ≡ 0 = omega arith in (p, sym e, rw f at k.is)
+      go (p ∷ (q ∷ ps)) k e = absurd (omega (arith, k.others.there))

@@ -3,11 +3,13 @@
 #![tactic(auto)]
 
 ghost use Rattle.std.specs.Prelude.{◌≡◌, ℕ, ◌+◌, ◌≤◌, ◌<◌, eqb, length};
+ghost use Rattle.std.specs.Prelude.{MatchOption};
+ghost use Rattle.std.proofs.Math.Option.{none};
 ghost use mathlib.Core.List.{map, zip_with};
 ghost use Rattle.tree.specs.Tree.{Basic, operator_of, apply};
 ghost use Rattle.words.specs.Formula.{Formula, join};
 ghost use Rattle.words.specs.Word.{operator_sign, most_signs, formula_of};
-ghost use Rattle.left_sides.specs.InnerKnown.{alike, capped, known, if_known, PartIs, SideIs};
+ghost use Rattle.left_sides.specs.InnerKnown.{capped, known, IsKnown, PartIs, SideIs};
 ghost use Rattle.left_sides.specs.InnerStands.{StandsIs};
 
 // The fillings of A, B, C and D with in or out: those with A in before those with A out, and so on within each.
@@ -71,7 +73,7 @@ struct Known {
     meaning: [bool; FILLINGS],
 }
 
-// What is known where there is no formula: it does not name A once, so it stands nowhere.
+// What the array of formulas that wait holds where none does.
 const NOTHING: Known = Known {
     names: false,
     once: false,
@@ -84,10 +86,8 @@ fn has_sign(row: [u8; FILLINGS], sign: u8) -> [bool; FILLINGS]
     ensures { result ≡ map (λ b. eqb b sign) row }
 {
     let mut out = [false; FILLINGS];
-    let mut i = 0;
-    while i < FILLINGS {
+    for i in 0..FILLINGS {
         out[i] = row[i] == sign;
-        i += 1;
     }
     out
 }
@@ -120,10 +120,8 @@ fn combined(sign: u8, x: [bool; FILLINGS], y: [bool; FILLINGS]) -> [bool; FILLIN
     ensures { (o : Basic) → sign ≡ operator_sign o → result ≡ zip_with (apply (operator_of o)) x y }
 {
     let mut out = [false; FILLINGS];
-    let mut i = 0;
-    while i < FILLINGS {
+    for i in 0..FILLINGS {
         out[i] = combine(sign, x[i], y[i]);
-        i += 1;
     }
     out
 }
@@ -160,51 +158,33 @@ fn joined(sign: u8, x: Known, y: Known) -> Known
     }
 }
 
-// What is known of the formula that a word is, nothing where it makes no tree: one pass, with what is known of each formula that waits.
-fn of_word(word: &[u8]) -> Known
+// What is known of the formula that a word is, if it makes a tree: one pass, with what is known of each formula that waits. (No heap: so these
+// stand in an array, with their number beside it.)
+fn of_word(word: &[u8]) -> Option<Known>
     requires { length word.now ≤ most_signs }
-    ensures { result ≡ if_known (formula_of word.now) }
+    ensures { MatchOption result (formula_of word.now ≡ none) (IsKnown (formula_of word.now)) }
 {
     let mut waiting = [NOTHING; words::MOST_SIGNS];
     let mut top: usize = 0;
-    let mut i = 0;
-    while i < word.len() {
-        let sign = word[i];
+    for sign in word {
+        let sign = *sign;
         if (b'A' <= sign) & (sign <= b'D') {
             waiting[top] = of_part(sign);
             top += 1;
-            i += 1;
         } else {
             if (sign != b'+') & (sign != b'-') {
-                return NOTHING;
+                return None;
             }
             if top < 2 {
-                return NOTHING;
+                return None;
             }
             top -= 1;
             let right = waiting[top];
             let left = waiting[top - 1];
             waiting[top - 1] = joined(sign, left, right);
-            i += 1;
         }
     }
-    if top != 1 {
-        return NOTHING;
-    }
-    waiting[0]
-}
-
-// Whether two formulas select the same, by what they select under each filling.
-fn same(x: [bool; FILLINGS], y: [bool; FILLINGS]) -> bool
-    ensures { result ≡ alike x y }
-{
-    let mut same = true;
-    let mut filling = 0;
-    while filling < FILLINGS {
-        same = same & (x[filling] == y[filling]);
-        filling += 1;
-    }
-    same
+    if top == 1 { Some(waiting[0]) } else { None }
 }
 
 // The word of the left side at a place of the table.
@@ -221,10 +201,12 @@ pub fn stands(word: &[u8], place: usize) -> bool
     requires place_bound { place < 36 }
     ensures { StandsIs word.now place result }
 {
-    let found = of_word(word);
-    let side = left_side(place);
-    let wanted = of_word(&side);
-    let meaning = found.meaning;
-    let side_meaning = wanted.meaning;
-    found.once & ((found.level == 2) & same(meaning, side_meaning))
+    let Some(found) = of_word(word) else {
+        return false;
+    };
+    let Some(side) = of_word(&left_side(place)) else {
+        return false;
+    };
+    let same = found.meaning == side.meaning;
+    found.once & ((found.level == 2) & same)
 }

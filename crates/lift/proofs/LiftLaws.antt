@@ -8,6 +8,7 @@ use native.Mathlib.Omega.{arith}
 use borrow.Author.Tests.{le-ltb, ltb-false, leb-false}
 use lib.Dec.{eqb, leb, ltb}
 use lib.ListN.{length}
+use Rattle.std.specs.Prelude.{Ok, Err}
 use Rattle.tree.specs.Tree.{Tree, size, most_nodes, postfix, Equivalent, Over, WithoutIntersection}
 use Rattle.tree.specs.Context.{Frame, plug}
 use Rattle.tree.specs.Parse.{tree_of, locate}
@@ -18,9 +19,7 @@ use Rattle.moves.specs.Moves.{MoveTable}
 use Rattle.moves.proofs.MoveLaws.{Right}
 use Rattle.step.specs.Step.{Outcome, stuck, blocked, moved, step}
 use Rattle.lift.specs.Lift.{Result, refused, lifted, goes_on, steps, lift_at, lift_in, lift_of}
-use Rattle.lift.specs.Answer.{lifted_says, result_says, Lifts}
-use Rattle.lift.specs.declared.Lifted.{Lifted}
-use Rattle.lift.specs.declared.Lifted.TheVariants.{Done, Refused}
+use Rattle.lift.specs.Answer.{refusal_number, Reply, lifted_says, result_says, Lifts}
 use Rattle.step.proofs.StepLaws.{step_selects, step_over, step_over_back, step_without, never_blocked}
 
 -- the tree u keeps of the tree t what it selects in every rig, the groups of its leaves and that it is without `I`, and is within the limit
@@ -113,15 +112,18 @@ unfolding lift_of
 lift_of_tree m room t p k r h = rw (le-ltb room most_nodes r, tree_of_postfix t h)
 
 -- ---- the answer itself, for callers
-abbrev pub lift_reply : Result → Lifted
-lift_reply (refused number) = Refused number
-lift_reply (lifted u position looks) = Done (size u) position looks
+-- the answer is this lift, done or refused with this number
+abbrev pub Replies : Reply → Result → Type 0
+Replies (Ok l) (lifted u position looks) = (l.nodes ≡ size u) × (l.position ≡ position) × (l.looks ≡ looks)
+Replies (Err r) (refused number) = refusal_number r ≡ number
+Replies (Ok l) (refused number) = ⊥
+Replies (Err r) (lifted u position looks) = ⊥
 
-pub lifts_reply : {x : Result} {out : List ℕ} {r : Lifted} {out' : List ℕ} → Lifts x out r out' → r ≡ lift_reply x
+pub lifts_reply : {x : Result} {out : List ℕ} {r : Reply} {out' : List ℕ} → Lifts x out r out' → Replies r x
 lifts_reply {x} {out} {r} L = go x r L.says
   where
-    go : (x : Result) (r : Lifted) → lifted_says r ≡ result_says x → r ≡ lift_reply x
-    go (refused number) (Refused m) e = cc
-    go (refused number) (Done nodes position looks) e = absurd (let z : ◌≡◌ {A = ℕ} 0 1 = cc in omega arith)
-    go (lifted u position looks) (Refused m) e = absurd (let z : ◌≡◌ {A = ℕ} 0 1 = cc in omega arith)
-    go (lifted u position looks) (Done nodes p n) e = cc
+    go : (x : Result) (r : Reply) → lifted_says r ≡ result_says x → Replies r x
+    go (refused number) (Err m) e = cc
+    go (refused number) (Ok l) e = absurd (let z : ◌≡◌ {A = ℕ} 0 1 = cc in omega arith)
+    go (lifted u position looks) (Err m) e = absurd (let z : ◌≡◌ {A = ℕ} 0 1 = cc in omega arith)
+    go (lifted u position looks) (Ok l) e = (cc, cc, cc)

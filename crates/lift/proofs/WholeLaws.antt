@@ -8,6 +8,7 @@ use native.Mathlib.Omega.{arith}
 use borrow.Author.Tests.{lt-ltb, le-ltb, le-leb, lt-leb, leb-false}
 use lib.Dec.{eqb, leb}
 use lib.ListN.{length, take}
+use Rattle.std.specs.Prelude.{Err}
 use Rattle.tree.specs.Tree.{Tree, size, most_nodes}
 use Rattle.tree.specs.Context.{Frame, before, Place}
 use Rattle.tree.specs.Parse.{tree_of, is_some, locate}
@@ -17,11 +18,11 @@ use Rattle.tree.proofs.ParseLaws.{IsTree, tree_length, no_tree_of}
 use Rattle.tree.proofs.PartLaws.{part_of_entry}
 use Rattle.tree.proofs.WritingLaws.{wrote_over, take_over}
 use Rattle.moves.specs.Moves.{MoveTable}
+use Rattle.std.specs.Prelude.{Option as Maybe}
 use Rattle.step.specs.InnerStanding.{StateIs, Standing}
 use Rattle.lift.specs.Lift.{refused, steps, lift_at, lift_in, lift_of, Result}
-use Rattle.lift.specs.Answer.{result_says, lift_buffer, Lifts}
-use Rattle.lift.specs.declared.Lifted.{Lifted}
-use Rattle.lift.specs.declared.Lifted.TheVariants.{Refused}
+use Rattle.lift.specs.Answer.{refusal_number, Reply, result_says, lift_buffer, Lifts}
+use Rattle.lift.specs.declared.Refusal.{Refusal}
 
 module _ (m : MoveTable) (room : ℕ) (l : List ℕ) (p k : ℕ) where
   pub says_11 : room < most_nodes → lift_of m room l p k ≡ refused 11
@@ -71,13 +72,13 @@ levels_below k level t = leb-false level k (go (eqb k 0) (leb level k) t)
     go false y e = e
 
 -- ---- the first buffer begins with the list
-pub stands_first : {l x : List ℕ} {zeros : List ℕ} {r from to state : ℕ} {a : Tree} {c : List Frame} → Wrote zeros 0 x r l → length l ≤ length zeros → Part l from to a c → StateIs c state
-    → Standing (take (length l) x) (record { from = from; to = to; state = state }) a c
+pub stands_first : {l x : List ℕ} {zeros : List ℕ} {r from to : ℕ} {state : Maybe ℕ} {a : Tree} {c : List Frame} → Wrote zeros 0 x r l → length l ≤ length zeros → Part l from to a c → StateIs c state
+    → Standing (take (length l) x) (record { part = record { from = from; to = to }; state = state }) a c
 stands_first {l} {x} {zeros} W h P s = record { part = rw (ap (take (length l)) (wrote_over W h) ∙ take_over l zeros (length l) refl) P; state = s }
 
 -- ---- what the call answers, for results that are the same
-pub refuses : {x : Result} {number : ℕ} {out : List ℕ} → x ≡ refused number → Lifts x out (Refused number) out
-refuses {x} {number} {out} e = record { says = sym (ap result_says e); leaves = sym (ap (λ (y : Result). lift_buffer y out) e) }
+pub refuses : {x : Result} (r : Refusal) {out : List ℕ} → x ≡ refused (refusal_number r) → Lifts x out (Err r) out
+refuses {x} r {out} e = record { says = sym (ap result_says e); leaves = sym (ap (λ (y : Result). lift_buffer y out) e) }
 
-pub lifts_same : {x y : Result} {out : List ℕ} {r : Lifted} {out' : List ℕ} → x ≡ y → Lifts y out r out' → Lifts x out r out'
+pub lifts_same : {x y : Result} {out : List ℕ} {r : Reply} {out' : List ℕ} → x ≡ y → Lifts y out r out' → Lifts x out r out'
 lifts_same {x} {y} {out} {r} {out'} e L = subst (λ (z : Result). Lifts z out r out') (sym e) L

@@ -8,41 +8,71 @@ ghost use Rattle.tree.specs.InnerPart.{Part};
 ghost use Rattle.moves.specs.Moves.{MoveTable, ours};
 ghost use Rattle.moves.specs.InnerEntries.{TableIs, SomeTable};
 ghost use Rattle.step.specs.InnerStanding.{Stands};
-ghost use Rattle.lift.specs.InnerLifts.{Ends, LiftsNode, LiftsPart};
+ghost use Rattle.lift.specs.InnerLifts.{by_step, Ends, LiftsNode, LiftsPart};
 ghost use Rattle.lift.specs.Lift.{lift_of};
 ghost use Rattle.lift.specs.School.{lift_with};
-ghost use Rattle.lift.specs.Answer.{Lifts};
+ghost use Rattle.lift.specs.Answer.{refusal_number, Lifts};
 
 use move_table::LoadedTable;
-use step::{Node, Stepped, Stretch};
-use tree::{MOST_NODES, UNION};
+use moves::{OUR_OWN, TableWords};
+use step::{Node, Stepped};
+use tree::{MOST_NODES, Stretch, UNION};
+
+// A lift that was done: how many nodes the new tree has, A's position and the looks.
+#[derive(Clone, Copy)]
+pub struct Lifted {
+    pub nodes: usize,
+    pub position: usize,
+    pub looks: usize,
+}
+
+// Why a lift is refused.
+#[derive(Clone, Copy, Debug, PartialEq, Eq)]
+pub enum Refusal {
+    ShortBuffer,
+    NotATree,
+    NoPosition,
+    // No levels, or not fewer than the node's own level.
+    BadLevels,
+    // A step has no node to take up: in states 5 to 9 there is no D.
+    NoStep,
+    // A step's result is over the limit.
+    TooLong,
+    // A step needs an operator that is an intersection.
+    ThroughIntersection,
+    // The table is none that loading could have made.
+    NotATable,
+}
 
 // 01's numbers of refusal; the last two are 02's, requests 6 and 7.
-pub const SHORT_BUFFER: u16 = 11;
+impl From<Refusal> for u16 {
+    ghost from_gives = { λ refusal number. number ≡ refusal_number refusal };
 
-pub const NOT_A_TREE: u16 = 12;
+    fn from(refusal: Refusal) -> u16 {
+        match refusal {
+            Refusal::ShortBuffer => 11,
+            Refusal::NotATree => 12,
+            Refusal::NoPosition => 13,
+            Refusal::BadLevels => 14,
+            Refusal::NoStep => 15,
+            Refusal::TooLong => 16,
+            Refusal::ThroughIntersection => 27,
+            Refusal::NotATable => 29,
+        }
+    }
+}
 
-pub const NO_POSITION: u16 = 13;
+// A lift is refused with its step.
+impl From<step::Refusal> for Refusal {
+    ghost from_gives = { λ refusal lift. lift ≡ by_step refusal };
 
-pub const BAD_LEVELS: u16 = 14;
-
-pub const NO_STEP: u16 = 15;
-
-pub const TOO_LONG: u16 = 16;
-
-pub const THROUGH_INTERSECTION: u16 = 27;
-
-pub const NOT_A_TABLE: u16 = 29;
-
-// A lift's answer: how many nodes the new tree has, A's position and the looks; or the refusal's number.
-#[derive(Clone, Copy)]
-pub enum Lifted {
-    Done {
-        nodes: usize,
-        position: usize,
-        looks: usize,
-    },
-    Refused(u16),
+    fn from(refusal: step::Refusal) -> Refusal {
+        match refusal {
+            step::Refusal::NoStep => Refusal::NoStep,
+            step::Refusal::ThroughIntersection => Refusal::ThroughIntersection,
+            step::Refusal::TooLong => Refusal::TooLong,
+        }
+    }
 }
 
 // That many steps of a node of the tree in the first `nodes` entries of `x`, with the looks so far: a step counts 1. `y` is a second buffer;
@@ -55,33 +85,29 @@ fn run(
     levels: usize,
     looks: usize,
     out: &mut [u16],
-    signs: &[u8],
-    lengths: &[u8],
-) -> Lifted
+    table: TableWords,
+) -> Result<Lifted, Refusal>
     requires stands { Stands (take nodes x.old) node }
     requires nodes_le_most_nodes { (nodes ≤ most_nodes) × (most_nodes ≤ length x.old) }
     requires most_nodes_in_bounds { (most_nodes ≤ length y.old) × (most_nodes ≤ length out.old) }
     requires levels_bound { looks + most_nodes * levels ≤ most_nodes * most_nodes }
-    requires some_table { SomeTable signs.now lengths.now }
-    ensures { (m : MoveTable) → TableIs m signs.now lengths.now
+    requires some_table { SomeTable table.signs.now table.lengths.now }
+    ensures { (m : MoveTable) → TableIs m table.entry.signs.now table.entry.lengths.now
         → LiftsNode m (take nodes x.old) node levels looks out.old result out.new }
 {
     if levels == 0 {
         tree::copy(&x[..nodes], out, 0);
-        return Lifted::Done {
+        return Ok(Lifted {
             nodes,
-            position: node.to - 1,
+            position: node.part.to - 1,
             looks,
-        };
+        });
     }
-    match step::step(&x[..nodes], node, y, signs, lengths) {
-        Stepped::Stuck => Lifted::Refused(NO_STEP),
-        Stepped::Blocked => Lifted::Refused(THROUGH_INTERSECTION),
-        Stepped::TooLong => Lifted::Refused(TOO_LONG),
-        Stepped::Done(size, next) => {
-            run(y, x, size, next, levels - 1, looks + 1, out, signs, lengths)
-        }
-    }
+    let Stepped {
+        nodes: size,
+        node: next,
+    } = step::step(&x[..nodes], node, y, table)?;
+    run(y, x, size, next, levels - 1, looks + 1, out, table)
 }
 
 // The level of the part that ends before `to`: how many operators take it, one after another.
@@ -92,20 +118,14 @@ fn level_of(list: &[u16], to: usize) -> usize
 {
     let mut level: usize = 0;
     let mut operands: usize = 0;
-    let mut i = to;
-    while i < list.len() {
-        if UNION <= list[i] {
-            if operands <= 1 {
-                level += 1;
-                operands = 0;
-                i += 1;
-            } else {
-                operands -= 1;
-                i += 1;
-            }
-        } else {
+    for entry in &list[to..] {
+        if *entry < UNION {
             operands += 1;
-            i += 1;
+        } else if operands <= 1 {
+            level += 1;
+            operands = 0;
+        } else {
+            operands -= 1;
         }
     }
     level
@@ -117,18 +137,18 @@ fn lift_part(
     to: usize,
     levels: usize,
     out: &mut [u16],
-    signs: &[u8],
-    lengths: &[u8],
-) -> Lifted
+    table: TableWords,
+) -> Result<Lifted, Refusal>
     requires ends { Ends list.now to }
     requires list_len_bound { (length list.now ≤ most_nodes) × (most_nodes ≤ length out.old) }
     requires levels_le_most_nodes { levels ≤ most_nodes }
-    requires some_table { SomeTable signs.now lengths.now }
-    ensures { (m : MoveTable) → TableIs m signs.now lengths.now
+    requires some_table { SomeTable table.signs.now table.lengths.now }
+    ensures { (m : MoveTable) → TableIs m table.entry.signs.now table.entry.lengths.now
         → LiftsPart m list.now to levels out.old result out.new }
 {
     let from = tree::part_start(list, to);
-    let state = step::first_state(list, Stretch { from, to });
+    let part = Stretch { from, to };
+    let state = step::first_state(list, part);
     let mut x = [0u16; MOST_NODES];
     let mut y = [0u16; MOST_NODES];
     tree::copy(list, &mut x, 0);
@@ -136,53 +156,54 @@ fn lift_part(
         &mut x,
         &mut y,
         list.len(),
-        Node { from, to, state },
+        Node { part, state },
         levels,
         0,
         out,
-        signs,
-        lengths,
+        table,
     )
 }
 
-// Lifts the node at a position of a tree by some levels, by the table whose words' signs and lengths are given, without any by ours, and writes
+// Lifts the node at a position of a tree by some levels, by a table's words, without any by ours, and writes
 // the new tree into `out`. The table is not checked again.
 pub fn lift_by(
     tree: &[u16],
     position: usize,
     levels: usize,
     out: &mut [u16],
-    signs: &[u8],
-    lengths: &[u8],
-) -> Lifted
-    requires { SomeTable signs.now lengths.now }
-    ensures { (m : MoveTable) → TableIs m signs.now lengths.now
+    table: TableWords,
+) -> Result<Lifted, Refusal>
+    requires { SomeTable table.signs.now table.lengths.now }
+    ensures { (m : MoveTable) → TableIs m table.entry.signs.now table.entry.lengths.now
         → Lifts (lift_of m (length out.old) tree.now position levels) out.old result out.new }
 {
     if out.len() < MOST_NODES {
-        return Lifted::Refused(SHORT_BUFFER);
+        return Err(Refusal::ShortBuffer);
     }
-    if tree::is_tree(tree) {
-        if tree.len() <= position {
-            return Lifted::Refused(NO_POSITION);
-        }
-        let to = position + 1;
-        let level = level_of(tree, to);
-        if (levels == 0) | (level <= levels) {
-            return Lifted::Refused(BAD_LEVELS);
-        }
-        lift_part(tree, to, levels, out, signs, lengths)
-    } else {
-        Lifted::Refused(NOT_A_TREE)
+    if !tree::is_tree(tree) {
+        return Err(Refusal::NotATree);
     }
+    if tree.len() <= position {
+        return Err(Refusal::NoPosition);
+    }
+    let to = position + 1;
+    let level = level_of(tree, to);
+    if (levels == 0) | (level <= levels) {
+        return Err(Refusal::BadLevels);
+    }
+    lift_part(tree, to, levels, out, table)
 }
 
 // The same by our own table.
-pub fn lift(tree: &[u16], position: usize, levels: usize, out: &mut [u16]) -> Lifted
+pub fn lift(
+    tree: &[u16],
+    position: usize,
+    levels: usize,
+    out: &mut [u16],
+) -> Result<Lifted, Refusal>
     ensures { Lifts (lift_of ours (length out.old) tree.now position levels) out.old result out.new }
 {
-    let nothing = [0u8; 0];
-    lift_by(tree, position, levels, out, &nothing, &nothing)
+    lift_by(tree, position, levels, out, OUR_OWN)
 }
 
 // The same by a school's table. One that loading could not have made is refused before everything else.
@@ -192,14 +213,15 @@ pub fn lift_with(
     levels: usize,
     out: &mut [u16],
     table: LoadedTable,
-) -> Lifted
+) -> Result<Lifted, Refusal>
     ensures { Lifts (lift_with table (length out.old) tree.now position levels) out.old result out.new }
 {
-    if move_table::is_loaded(table) {
-        let signs = table.signs;
-        let lengths = table.lengths;
-        lift_by(tree, position, levels, out, &signs, &lengths)
-    } else {
-        Lifted::Refused(NOT_A_TABLE)
+    if !move_table::is_loaded(table) {
+        return Err(Refusal::NotATable);
     }
+    let words = TableWords {
+        signs: &table.signs,
+        lengths: &table.lengths,
+    };
+    lift_by(tree, position, levels, out, words)
 }

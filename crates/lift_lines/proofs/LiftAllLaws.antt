@@ -1,7 +1,7 @@
 -- The loop over the lifts: after i of them, what is written and what is left to write from the present tree make up the whole.
+use Rattle.std.proofs.Common.{Some}
 use mathlib.Core.Path.{◌≡◌, refl, sym, ap, ◌∙◌}
 use mathlib.Core.List.{List, [], ◌∷◌, ◌++◌}
-use mathlib.Core.Logic.{◌⊎◌, inl, inr}
 use Prim.Native.Nat.{ℕ, suc, ◌+◌, ◌-◌, ◌*◌, ◌≤◌, ◌<◌}
 use native.Mathlib.Omega.{arith}
 use lib.ListN.{length, take}
@@ -12,6 +12,7 @@ use Rattle.sheet.specs.Rules.{sheet_rules}
 use Rattle.sheet.specs.InnerLines.{line_at, LiftRange, LiftsTo}
 use Rattle.sheet.specs.Reading.{LiftLine}
 use Rattle.sheet.specs.declared.Line.TheVariants.{Lift}
+use Rattle.sheet.specs.declared.LineAt.{LineAt}
 use Rattle.printing.specs.Key.{lift_row, lift_rows}
 use Rattle.printing.specs.Inner.{row_text}
 use Rattle.lift_lines.specs.Inner.{lift_bytes, IsList, LiftedOne, Asked, LiftedAll}
@@ -50,12 +51,19 @@ pub record Turn (sheet : List ℕ) (at : ℕ) (rest : List LiftLine) : Type 0 wh
   pub line : LiftLine
   pub more : List LiftLine
   pub is : rest ≡ line ∷ more
-  pub read : (line_at sheet_rules sheet at).line ≡ Lift line.position line.levels
+  pub read : (line_at sheet_rules sheet at).line ≡ Some (Lift line.position line.levels)
   pub range : LiftRange line
 
 pub turn : (sheet : List ℕ) (at n : ℕ) (rest : List LiftLine) → Asked sheet at n rest → 0 < n → Turn sheet at rest
 turn sheet at n [] A h = absurd (omega (arith, A.counted))
 turn sheet at n (l ∷ more) A h = unfold LiftsTo in record { line = l; more = more; is = refl; read = A.lines.0; range = A.lines.1 }
+
+-- the numbers that the code takes from the line are its own
+pub same_lift : {sheet : List ℕ} {at : ℕ} {rest : List LiftLine} (T : Turn sheet at rest) (r : LineAt) → r ≡ line_at sheet_rules sheet at → {p n : ℕ} → r.line ≡ Some (Lift p n)
+    → (p ≡ T.line.position) × (n ≡ T.line.levels)
+same_lift {sheet} {at} {rest} T r e {p} {n} f =
+    let q : Some (Lift p n) ≡ Some (Lift T.line.position T.line.levels) = sym f ∙ ap (λ (x : LineAt). x.line) e ∙ T.read in
+    (cc, cc)
 
 next_asked : (sheet : List ℕ) (at n : ℕ) (l : LiftLine) (more : List LiftLine) → Asked sheet at (suc n) (l ∷ more) → Asked sheet (line_at sheet_rules sheet at).next n more
 unfolding LiftsTo
@@ -104,11 +112,3 @@ module _ {m : MoveTable} {sheet : List ℕ} {t : Tree} {ls : List LiftLine} {cou
             most = omega (arith, R.most);
           }
       go (l ∷ more) q = absurd (omega (arith, R.asked.counted, ap (length {A = LiftLine}) q))
-
--- the tag of a lift line is none of the others'
-pub not_two : {X : Type 0} → (◌≡◌ {A = ℕ} 2 0) ⊎ ((◌≡◌ {A = ℕ} 2 1) ⊎ ((◌≡◌ {A = ℕ} 2 3) ⊎ ((◌≡◌ {A = ℕ} 2 4) ⊎ (◌≡◌ {A = ℕ} 2 5)))) → X
-not_two (inl e) = absurd (omega arith)
-not_two (inr (inl e)) = absurd (omega arith)
-not_two (inr (inr (inl e))) = absurd (omega arith)
-not_two (inr (inr (inr (inl e)))) = absurd (omega arith)
-not_two (inr (inr (inr (inr e)))) = absurd (omega arith)

@@ -5,6 +5,7 @@ use Prim.Native.Nat.{ℕ, ◌+◌, ◌^◌, ◌≤◌, ◌<◌}
 use native.Mathlib.Omega.{arith}
 use lib.ListN.{length, take, drop, length-append}
 use lib.Seq.{length-take-le}
+use Rattle.std.specs.Prelude.{Ok, Err}
 use Rattle.tree.specs.Tree.{Tree, postfix, size, most_nodes}
 use Rattle.tree.specs.Writing.{over}
 use Rattle.tree.specs.InnerWriting.{Wrote}
@@ -16,10 +17,10 @@ use Rattle.moves.proofs.MoveLaws.{Right}
 use Rattle.sheet.specs.Form.{most_position, most_levels}
 use Rattle.sheet.specs.Reading.{LiftLine}
 use Rattle.lift.specs.Lift.{Result, refused, lifted, lift_of}
-use Rattle.lift.specs.Answer.{lift_buffer, Lifts}
-use Rattle.lift.proofs.LiftLaws.{Kept, RefusedKeeps, LiftedKeeps, lift_in_keeps, lift_of_tree, lift_reply, lifts_reply}
+use Rattle.lift.specs.Answer.{refusal_number, Reply, lift_buffer, Lifts}
+use Rattle.lift.proofs.LiftLaws.{Kept, RefusedKeeps, LiftedKeeps, lift_in_keeps, lift_of_tree, Replies, lifts_reply}
 use Rattle.lift.specs.declared.Lifted.{Lifted}
-use Rattle.lift.specs.declared.Lifted.TheVariants.{Done, Refused}
+use Rattle.lift.specs.declared.Refusal.{Refusal}
 use Rattle.printing.specs.Key.{LIFT}
 use Rattle.lift_lines.specs.Lifting.{lifting}
 use Rattle.lift_lines.specs.Inner.{lift_bytes, IsList, LiftedOne}
@@ -41,53 +42,45 @@ pub record RefusedLift (m : MoveTable) (t : Tree) (l : LiftLine) (number : ℕ) 
   pub is : lifting m t l ≡ refused number
   pub small : number < 100
 
-module _ (m : MoveTable) (R : Right m) (entries new : List ℕ) (r : Lifted) (new' : List ℕ) (t : Tree) (l : LiftLine) (w : IsList entries t) (full : most_nodes ≤ length new)
-    (few : l.levels ≤ most_levels)
-    (L : Lifts (lift_of m (length new) entries l.position l.levels) new r new') where
+module _ (m : MoveTable) (R : Right m) (entries new new' : List ℕ) (t : Tree) (l : LiftLine) (w : IsList entries t) (full : most_nodes ≤ length new) (few : l.levels ≤ most_levels) where
   result : lift_of m (length new) entries l.position l.levels ≡ lifting m t l
   result = ap (λ (e : List ℕ). lift_of m (length new) e l.position l.levels) w.list ∙ lift_of_tree m (length new) t l.position l.levels full w.most
-
-  answered : r ≡ lift_reply (lifting m t l)
-  answered = lifts_reply L ∙ ap lift_reply result
 
   kept : Kept t l.levels (lifting m t l)
   kept = lift_in_keeps R t l.position l.levels w.most
 
-  pub done_lift : (count place looks : ℕ) → r ≡ Done count place looks → DoneLift m t l count place looks new'
-  done_lift count place looks e = go (lifting m t l) refl (sym e ∙ answered) (L.leaves ∙ ap (λ (x : Result). lift_buffer x new) result)
+  replied : {r : Reply} → Lifts (lift_of m (length new) entries l.position l.levels) new r new' → Replies r (lifting m t l)
+  replied {r} L = subst (Replies r) result (lifts_reply L)
+
+  pub done_lift : (d : Lifted) → Lifts (lift_of m (length new) entries l.position l.levels) new (Ok d) new' → DoneLift m t l d.nodes d.position d.looks new'
+  done_lift d L = go (lifting m t l) refl (replied L) (L.leaves ∙ ap (λ (x : Result). lift_buffer x new) result)
     where
-      go : (x : Result) → lifting m t l ≡ x → Done count place looks ≡ lift_reply x → new' ≡ lift_buffer x new → DoneLift m t l count place looks new'
-      go (refused n) q f b = absurd (let z : ◌≡◌ {A = ℕ} 0 1 = cc in omega arith)
+      go : (x : Result) → lifting m t l ≡ x → Replies (Ok d) x → new' ≡ lift_buffer x new → DoneLift m t l d.nodes d.position d.looks new'
+      go (refused n) q f b = absurd f
       go (lifted u p k) q f b =
-          let a : count ≡ size u = cc in
-          let d : p ≡ place = cc in
-          let g : k ≡ looks = cc in
-          let h : lifting m t l ≡ lifted u place looks = q ∙ rw (d, g) in
-          let K : LiftedKeeps t l.levels u place looks = subst (Kept t l.levels) h kept in
+          let h : lifting m t l ≡ lifted u d.position d.looks = q ∙ rw (f.1, f.2) in
+          let K : LiftedKeeps t l.levels u d.position d.looks = subst (Kept t l.levels) h kept in
           let most = K.keeps.most in
           record {
             tree = u;
             is = h;
-            counted = a;
+            counted = f.0;
             most = most;
-            front = rw b (take_over (postfix u) new count (a ∙ sym (postfix_length u)));
-            long = rw b (omega (arith, a, postfix_length u, length-append (postfix u) (drop (length (postfix u)) new)));
+            front = rw b (take_over (postfix u) new d.nodes (f.0 ∙ sym (postfix_length u)));
+            long = rw b (omega (arith, f.0, postfix_length u, length-append (postfix u) (drop (length (postfix u)) new)));
             place_small = omega (arith, K.position_within, most);
             looks_small = omega (arith, K.looks_are, few);
           }
 
-  refused_small : {number : ℕ} → lifting m t l ≡ refused number → number < 100
-  refused_small {number} h = let K : RefusedKeeps t number = subst (Kept t l.levels) h kept in K.small
-
-  pub refused_lift : (number : ℕ) → r ≡ Refused number → RefusedLift m t l number
-  refused_lift number e = go (lifting m t l) refl (sym e ∙ answered)
+  pub refused_lift : (r : Refusal) → Lifts (lift_of m (length new) entries l.position l.levels) new (Err r) new' → RefusedLift m t l (refusal_number r)
+  refused_lift r L = go (lifting m t l) refl (replied L)
     where
-      go : (x : Result) → lifting m t l ≡ x → Refused number ≡ lift_reply x → RefusedLift m t l number
-      go (lifted u p k) q f = absurd (let z : ◌≡◌ {A = ℕ} 0 1 = cc in omega arith)
+      go : (x : Result) → lifting m t l ≡ x → Replies (Err r) x → RefusedLift m t l (refusal_number r)
+      go (lifted u p k) q f = absurd f
       go (refused n) q f =
-          let a : n ≡ number = cc in
-          let h : lifting m t l ≡ refused number = q ∙ rw a in
-          record { is = h; small = refused_small h }
+          let h : lifting m t l ≡ refused (refusal_number r) = q ∙ rw f in
+          let K : RefusedKeeps t (refusal_number r) = subst (Kept t l.levels) h kept in
+          record { is = h; small = K.small }
 
 -- ---- the two answers of `lift_one`
 pub lift_line_room : (number position looks at room : ℕ) → number < 100 → position < 10 ^ 4 → looks < 100 → at + lift_bytes ≤ room → at + length (line LIFT (number ∷ position ∷ looks ∷ [])) ≤ room

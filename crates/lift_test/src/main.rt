@@ -4,35 +4,24 @@
 // entries.
 #![tactic(auto)]
 
-ghost use Rattle.std.specs.Prelude.{◌≤◌, length};
-
-use lift::Lifted;
+use lift::{Lifted, Refusal};
 use std::io;
 use tree::{DIFFERENCE, INTERSECTION, UNION};
 
 const BEFORE: u16 = 61000;
 
-// Sets the list's numbers from index `from` up to, not including, `to`.
-fn set_all(list: &mut [u16], from: usize, to: usize, x: u16)
-    requires { to ≤ length list.old }
-{
-    for i in from..to {
-        list[i] = x;
-    }
-}
-
 // Sets one number, where there is one.
 fn put(list: &mut [u16], at: usize, x: u16) {
-    if at < list.len() {
-        list[at] = x;
+    if let Some(entry) = list.get_mut(at) {
+        *entry = x;
     }
 }
 
 // Goes on from index `from` to the end with a leaf and an operator in turn.
 fn chain(list: &mut [u16], from: usize, leaf: u16, operator: u16) {
     let mut next = leaf;
-    for i in from..list.len() {
-        list[i] = next;
+    for entry in list.iter_mut().skip(from) {
+        *entry = next;
         next = if next == leaf { operator } else { leaf };
     }
 }
@@ -46,7 +35,7 @@ fn unchanged(out: &[u16]) -> usize {
 fn checksum(out: &[u16]) -> u64 {
     let mut sum = 0u64;
     for x in out {
-        sum = (sum * 31 + (*x as u64)) % 1000000007;
+        sum = (sum * 31 + u64::from(*x)) % 1000000007;
     }
     sum
 }
@@ -56,16 +45,12 @@ fn print_number(rt: &impl Print, x: u64) -> io::Result<()> {
 }
 
 fn print_entry(rt: &impl Print, x: u16) -> io::Result<()> {
-    if x == UNION {
-        return rt.write_all(b" U");
+    match x {
+        UNION => rt.write_all(b" U"),
+        DIFFERENCE => rt.write_all(b" D"),
+        INTERSECTION => rt.write_all(b" I"),
+        _ => print!(rt; " {x}"),
     }
-    if x == DIFFERENCE {
-        return rt.write_all(b" D");
-    }
-    if x == INTERSECTION {
-        return rt.write_all(b" I");
-    }
-    print!(rt; " {x}")
 }
 
 // The first entries of a tree of so many nodes, at most twelve.
@@ -77,35 +62,20 @@ fn print_front(rt: &impl Print, out: &[u16], nodes: usize) -> io::Result<()> {
 }
 
 // The number, the position and the looks as the key prints them, and the new tree's length; refused, the line's own position, 0 and 0.
-fn print_answer(rt: &impl Print, answer: Lifted, asked: usize) -> io::Result<()> {
+fn print_answer(rt: &impl Print, answer: Result<Lifted, Refusal>, asked: usize) -> io::Result<()> {
     match answer {
-        Lifted::Done {
-            nodes,
-            position,
-            looks,
-        } => {
+        Ok(lifted) => {
             print_number(rt, 0)?;
-            print_number(rt, position as u64)?;
-            print_number(rt, looks as u64)?;
-            print_number(rt, nodes as u64)
+            print_number(rt, lifted.position as u64)?;
+            print_number(rt, lifted.looks as u64)?;
+            print_number(rt, lifted.nodes as u64)
         }
-        Lifted::Refused(number) => {
-            print_number(rt, number as u64)?;
+        Err(refusal) => {
+            print_number(rt, u64::from(u16::from(refusal)))?;
             print_number(rt, asked as u64)?;
             print_number(rt, 0)?;
             print_number(rt, 0)
         }
-    }
-}
-
-fn nodes_of(answer: Lifted) -> usize {
-    match answer {
-        Lifted::Done {
-            nodes,
-            position: _,
-            looks: _,
-        } => nodes,
-        Lifted::Refused(_) => 0,
     }
 }
 
@@ -124,7 +94,7 @@ fn show_in(
     print_answer(rt, answer, position)?;
     print_number(rt, unchanged(out) as u64)?;
     rt.print(checksum(out))?;
-    print_front(rt, out, nodes_of(answer))?;
+    print_front(rt, out, answer.map_or(0, |lifted| lifted.nodes))?;
     rt.write_all(b"\n")
 }
 
@@ -240,9 +210,8 @@ fn join_chain(list: &mut [u16]) {
     put(list, 3, 3);
     put(list, 4, DIFFERENCE);
     put(list, 5, 4);
-    let count = list.len();
-    if 0 < count {
-        put(list, count - 1, UNION);
+    if let Some(last) = list.last_mut() {
+        *last = UNION;
     }
 }
 
@@ -288,14 +257,14 @@ fn differences(rt: &impl Print) -> io::Result<()> {
         99,
     )?;
     let mut right = [7u16; 201];
-    set_all(&mut right, 101, 201, DIFFERENCE);
+    right[101..].fill(DIFFERENCE);
     show(rt, b"the last group by 98 levels", &right, 100, 98)?;
     show(rt, b"15 by 99 levels", &right, 100, 99)?;
     let mut nine = [3u16; 201];
     chain(&mut nine, 5, 4, DIFFERENCE);
     put(&mut nine, 1, 2);
     put(&mut nine, 2, 1);
-    set_all(&mut nine, 3, 5, DIFFERENCE);
+    nine[3..5].fill(DIFFERENCE);
     show(rt, b"in state 9 by 98 levels", &nine, 2, 98)
 }
 

@@ -11,6 +11,5 @@ fn main(rt: HostRuntime) -> io::Result<()> {
     let drawn = input::read_named(&rt, 2, &mut candidate);
     let marking = marking::mark(&question[..asked], &candidate[..drawn]);
     let line = marking::mark_line(marking);
-    let bytes = line.bytes;
-    output::print(&rt, &bytes, line.count)
+    output::print(&rt, &line.bytes, line.count)
 }

@@ -1,11 +1,12 @@
 -- The lines of an accepted drawing are its entries, each in its order, and then `E`: so the first line with a foreign group is found
 -- among the entries.
+use Rattle.std.proofs.Common.{Option, Some, None}
 use mathlib.Core.Path.{◌≡◌, refl, sym, ap, ap₂, subst, ◌∙◌}
 use mathlib.Core.Bool.{Bool, true, false, not, cond, ◌&&◌, false≢true}
 use mathlib.Core.List.{List, [], ◌∷◌, ◌++◌, append_assoc, append-nil}
 use Prim.Native.Nat.{ℕ, ◌+◌, ◌≤◌, ◌<◌}
 use native.Mathlib.Omega.{arith}
-use borrow.Author.Tests.{eqb-true, lt-ltb}
+use borrow.Author.Tests.{eqb-true, lt-ltb, le-ltb}
 use lib.Dec.{T, eqb, ltb}
 use lib.ListN.{length, get_or, drop, drop_of_length-le}
 use Rattle.tree.specs.Tree.{Operator as TreeOperator, union, difference, intersection, sign, Tree, postfix, Over, is_group, is_in}
@@ -20,7 +21,7 @@ use Rattle.sheet.specs.Rules.{candidate_rules}
 use Rattle.sheet.specs.Reading.{ReadingState, ended, trees, place, fault_of, state_after, nothing_read, accepted, read_lines, read_with}
 use Rattle.sheet.specs.InnerHolding.{InRange}
 use Rattle.sheet.specs.declared.Line.{Line}
-use Rattle.sheet.specs.declared.Line.TheVariants.{Group, Operator, Lift, Mark, End, Bad}
+use Rattle.sheet.specs.declared.Line.TheVariants.{Group, Operator, Lift, Mark, End}
 use Rattle.sheet.proofs.FormLaws.{line_range}
 use Rattle.sheet.proofs.SoundLaws.{order_none, none_of, bad_fault}
 use Rattle.sheet.proofs.AcceptedLaws.{PassedLine, passed_line, passed_last, passed_start}
@@ -53,15 +54,15 @@ module _ (groups : List ℕ) (end : ReadingState) where
   after_end st n at (last l) p e = (refl, passed_last candidate_rules end st n at l e)
   after_end st n at (part l ls) p e = absurd (no_more (line_of candidate_rules l) (passed_line candidate_rules end st n at l ls e).faultless)
     where
-      most : (k : Line) → place k ≤ 3
-      most Bad = omega arith
-      most (Group g) = omega arith
-      most (Operator x) = omega arith
-      most (Lift q m) = omega arith
-      most (Mark g) = omega arith
-      most End = omega arith
+      most : (k : Option Line) → place k ≤ 3
+      most None = omega arith
+      most (Some (Group g)) = omega arith
+      most (Some (Operator x)) = omega arith
+      most (Some (Lift q m)) = omega arith
+      most (Some (Mark g)) = omega arith
+      most (Some End) = omega arith
 
-      no_more : (k : Line) → fault_of candidate_rules st k ≡ 0 → ⊥
+      no_more : (k : Option Line) → fault_of candidate_rules st k ≡ 0 → ⊥
       no_more k f = omega (arith, most k, (order_none st.phase (length (trees st.entries)) (place k) (none_of candidate_rules st k f).0).0)
 
   -- a line with an entry
@@ -78,17 +79,17 @@ module _ (groups : List ℕ) (end : ReadingState) where
   LinesAdd ps = (st : ReadingState) (n at : ℕ) → read_lines candidate_rules st n at ps ≡ accepted end → Adds groups end st n ps
 
   -- a line of each kind
-  adds_line : (l : List ℕ) (ls : Parts) → LinesAdd ls → (st : ReadingState) (n at : ℕ) (k : Line) → line_of candidate_rules l ≡ k → InRange k → PassedLine candidate_rules end st n at k ls → Adds groups end st n (part l ls)
+  adds_line : (l : List ℕ) (ls : Parts) → LinesAdd ls → (st : ReadingState) (n at : ℕ) (k : Option Line) → line_of candidate_rules l ≡ k → InRange k → PassedLine candidate_rules end st n at k ls → Adds groups end st n (part l ls)
   unfolding foreign_line foreign_entry fault_of
-  adds_line l ls later st n at Bad q r p = absurd (bad_fault candidate_rules st p.faultless)
-  adds_line l ls later st n at (Group g) q r p =
-      adds_entry st n g l ls (state_after st (Group g) at) refl (ap (is_foreign groups) q ∙ rw (lt-ltb g (sign union) (group_small g r))) (later _ (n + 1) at p.later)
-  adds_line l ls later st n at (Operator x) q r p =
-      adds_entry st n x l ls (state_after st (Operator x) at) refl (ap (is_foreign groups) q ∙ rw r.1 (operator_none groups r.0)) (later _ (n + 1) at p.later)
-  adds_line l ls later st n at (Lift a m) q r p = absurd (let z : ◌≡◌ {A = ℕ} 3 0 = p.faultless in omega arith)
-  adds_line l ls later st n at (Mark g) q r p = absurd (let z : ◌≡◌ {A = ℕ} 3 0 = p.faultless in omega arith)
-  adds_line l ls later st n at End q r p =
-      let e = after_end (state_after st End at) (n + 1) at ls refl p.later in
+  adds_line l ls later st n at None q r p = absurd (bad_fault candidate_rules st p.faultless)
+  adds_line l ls later st n at (Some (Group g)) q r p =
+      adds_entry st n g l ls (state_after st (Some (Group g)) at) refl (ap (is_foreign groups) q ∙ rw (lt-ltb g (sign union) (group_small g r))) (later _ (n + 1) at p.later)
+  adds_line l ls later st n at (Some (Operator x)) q r p =
+      adds_entry st n x l ls (state_after st (Some (Operator x)) at) refl (ap (is_foreign groups) q ∙ rw r.1 (operator_none groups r.0)) (later _ (n + 1) at p.later)
+  adds_line l ls later st n at (Some (Lift a m)) q r p = absurd (let z : ◌≡◌ {A = ℕ} 3 0 = p.faultless in omega arith)
+  adds_line l ls later st n at (Some (Mark g)) q r p = absurd (let z : ◌≡◌ {A = ℕ} 3 0 = p.faultless in omega arith)
+  adds_line l ls later st n at (Some End) q r p =
+      let e = after_end (state_after st (Some End) at) (n + 1) at ls refl p.later in
       record { more = []; entries = ap (λ (s : ReadingState). s.entries) (sym e.1) ∙ sym (append-nil st.entries); first = rw q e.0 }
 
   lines_add : (ps : Parts) → LinesAdd ps
@@ -130,15 +131,23 @@ module _ (groups : List ℕ) where
   pub foreign_none : (u : Tree) → Over (is_in groups) u → foreign_entry groups 0 (postfix u) ≡ 0
   foreign_none u o = in_none 0 (postfix u) (λ g i. leaves_over (is_in groups) u o g (rw (leaves_postfix u) at i))
 
+and-false : (b : Bool) → (b && false) ≡ false
+and-false true = refl
+and-false false = refl
+
 -- ---- the loop over the entries, from the entry at index i on
 module _ (groups list : List ℕ) (i : ℕ) where
-  pub foreign_here : i < length list → (ltb (get_or list i 0) (sign union) && not (is_in groups (get_or list i 0))) ≡ true → foreign_entry groups i (drop i list) ≡ i + 1
+  pub foreign_here : i < length list → get_or list i 0 < sign union → is_in groups (get_or list i 0) ≡ false → foreign_entry groups i (drop i list) ≡ i + 1
   unfolding foreign_entry
-  foreign_here h e = rw (here list i h, e)
+  foreign_here h l e = rw (here list i h, lt-ltb (get_or list i 0) (sign union) l, e)
 
-  pub foreign_on : i < length list → (ltb (get_or list i 0) (sign union) && not (is_in groups (get_or list i 0))) ≡ false → foreign_entry groups i (drop i list) ≡ foreign_entry groups (i + 1) (drop (i + 1) list)
+  pub foreign_known : i < length list → is_in groups (get_or list i 0) ≡ true → foreign_entry groups i (drop i list) ≡ foreign_entry groups (i + 1) (drop (i + 1) list)
   unfolding foreign_entry
-  foreign_on h e = rw (here list i h, e)
+  foreign_known h e = rw (here list i h, e, and-false (ltb (get_or list i 0) (sign union)))
+
+  pub foreign_operator : i < length list → sign union ≤ get_or list i 0 → foreign_entry groups i (drop i list) ≡ foreign_entry groups (i + 1) (drop (i + 1) list)
+  unfolding foreign_entry
+  foreign_operator h l = rw (here list i h, le-ltb (get_or list i 0) (sign union) l)
 
   pub foreign_end : length list ≤ i → foreign_entry groups i (drop i list) ≡ 0
   unfolding foreign_entry

@@ -2,6 +2,6 @@
 mod ForeignLaws
 mod MarkLaws
 mod ReadLaws
-mod RowLaws
+pub mod RowLaws
 mod TextLaws
 pub mod Theorems

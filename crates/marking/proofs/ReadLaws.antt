@@ -1,29 +1,27 @@
 -- What reading's answers of two accepted files hold: the two trees, the question's groups and marks, and the first foreign line.
-use mathlib.Core.Path.{◌≡◌, refl, sym, ap, ap₂, subst, ◌∙◌}
-use mathlib.Core.Bool.{Bool, true, false}
+use mathlib.Core.Path.{◌≡◌, sym, ap, ap₂, subst, ◌∙◌}
 use mathlib.Core.List.{List, []}
 use Prim.Native.Nat.{ℕ, zero, suc, ◌≤◌}
 use native.Mathlib.Omega.{arith}
-use borrow.Author.Tests.{ltb-true, ltb-false}
-use lib.Dec.{ltb}
 use lib.ListN.{length, take}
+use Rattle.std.specs.Prelude.{Ok, Err}
 use Rattle.tree.specs.Tree.{Tree, postfix, most_groups, Over, is_in, collect, groups}
-use Rattle.tree.specs.InnerGroups.{leaves_in, Collected}
+use Rattle.tree.specs.InnerGroups.{leaves_in}
 use Rattle.tree.proofs.TreeLaws.{postfix_length}
 use Rattle.tree.proofs.GroupLaws.{over_groups, leaves_postfix}
 use Rattle.text.specs.Parts.{split}
 use Rattle.text.specs.Line.{line_feed}
 use Rattle.table.specs.InnerTable.{Listed}
 use Rattle.sheet.specs.Rules.{sheet_rules, candidate_rules}
-use Rattle.sheet.specs.Reading.{ReadingState, ReadingOutcome, accepted, read_with, reading, sheet_of}
-use Rattle.sheet.specs.InnerDrawing.{drawing_of}
+use Rattle.sheet.specs.Reading.{ReadingState, ReadingOutcome, accepted, read_with, reading, sheet_with}
 use Rattle.sheet.specs.declared.Sheet.{Sheet}
 use Rattle.sheet.specs.declared.Drawing.{Drawing}
-use Rattle.sheet.proofs.AcceptedLaws.{Accepted, accepted_sheet_lem, accepted_drawing_lem, number_accepted, number_refused, drawing_accepted, drawing_refused, answered_tree, answered_marks, answered_long, drawn_tree, drawn_long}
-use Rattle.marking.specs.Marking.{no, foreign_line, MarksRead, MarksBy, Marks}
-use Rattle.marking.specs.Inner.{foreign_entry, Judged, BothRead, MarksAnswers}
-use Rattle.marking.specs.declared.Marking.{Marking}
-use Rattle.marking.specs.declared.Marking.TheVariants.{QuestionRefused, CandidateRefused}
+use Rattle.sheet.proofs.AcceptedLaws.{Accepted, accepted_sheet_lem, accepted_drawing_lem, sheet_accepted, sheet_refused, drawing_accepted, drawing_refused, answered_tree, answered_marks, answered_long, drawn_tree, drawn_long}
+use Rattle.marking.specs.Marking.{Marking, no, marking_says, foreign_line, MarksRead, MarksBy, Marks}
+use Rattle.marking.specs.Inner.{foreign_entry, Judged, QuestionRead, CandidateRead, BothRead, MarksAnswers}
+use Rattle.marking.specs.declared.File.{File}
+use Rattle.marking.specs.declared.File.TheVariants.{Candidate}
+use Rattle.marking.specs.declared.Refusal.{Refusal}
 use Rattle.marking.proofs.ForeignLaws.{foreign_lines, none_foreign}
 
 module _ {question candidate : List ℕ} {q c : ReadingState} {sheet : Sheet} {drawing : Drawing} (B : BothRead question candidate q c sheet drawing) where
@@ -62,76 +60,69 @@ module _ {question candidate : List ℕ} {q c : ReadingState} {sheet : Sheet} {d
   drawing_listed = listed _ C.tree drawing_list (omega (arith, C.nodes, postfix_length C.tree))
 
   -- ---- the question's groups, which `groups_of` found
-  module _ {list : List ℕ} {count : ℕ} (found : Collected (collect [] (leaves_in (take sheet.nodes sheet.tree))) list count) where
-    all : collect [] (leaves_in (take sheet.nodes sheet.tree)) ≡ groups Q.tree
-    all = ap (λ (xs : List ℕ). collect [] (leaves_in xs)) sheet_list ∙ ap (collect []) (leaves_postfix Q.tree)
+  all : collect [] (leaves_in (take sheet.nodes sheet.tree)) ≡ groups Q.tree
+  all = ap (λ (xs : List ℕ). collect [] (leaves_in xs)) sheet_list ∙ ap (collect []) (leaves_postfix Q.tree)
 
-    pub count_few : count ≤ most_groups
-    count_few = go (ltb most_groups count) refl
-      where
-        go : (b : Bool) → ltb most_groups count ≡ b → count ≤ most_groups
-        go true e = absurd (omega (arith, found.more (ltb-true most_groups count e), ap length all, Q.different))
-        go false e = ltb-false most_groups count e
+  pub few_groups : length (collect [] (leaves_in (take sheet.nodes sheet.tree))) ≤ most_groups
+  few_groups = omega (arith, ap length all, Q.different)
 
-    groups_list : take count list ≡ groups Q.tree
-    groups_list = found.fits count_few ∙ all
+  module _ {gs : List ℕ} (found : gs ≡ collect [] (leaves_in (take sheet.nodes sheet.tree))) where
+    groups_list : gs ≡ groups Q.tree
+    groups_list = found ∙ all
 
     -- the first foreign entry is the first foreign line
-    pub foreign_is : foreign_entry (take count list) 0 (take drawing.nodes drawing.tree) ≡ foreign_line q.groups 0 (split line_feed candidate)
+    pub foreign_is : foreign_entry gs 0 (take drawing.nodes drawing.tree) ≡ foreign_line q.groups 0 (split line_feed candidate)
     foreign_is =
         ap₂ (λ (gs xs : List ℕ). foreign_entry gs 0 xs) (groups_list ∙ sym Q.known) (drawing_list ∙ sym C.list)
         ∙ sym (foreign_lines q.groups candidate c B.candidate_is)
 
-    pub read_foreign : (line : ℕ) → line ≡ foreign_entry (take count list) 0 (take drawing.nodes drawing.tree) → (line ≡ 0 → ⊥)
-        → MarksRead q c (foreign_line q.groups 0 (split line_feed candidate)) (CandidateRefused 26 line)
+    pub read_foreign : (line : ℕ) → line ≡ foreign_entry gs 0 (take drawing.nodes drawing.tree) → (line ≡ 0 → ⊥)
+        → MarksRead q c (foreign_line q.groups 0 (split line_feed candidate)) (Err (record { number = 26; line = line; file = Candidate }))
     read_foreign line e n = go (foreign_line q.groups 0 (split line_feed candidate)) (e ∙ foreign_is)
       where
-        go : (foreign : ℕ) → line ≡ foreign → MarksRead q c foreign (CandidateRefused 26 line)
+        go : (foreign : ℕ) → line ≡ foreign → MarksRead q c foreign (Err (record { number = 26; line = line; file = Candidate }))
         go zero e = absurd (n e)
         go (suc m) e = ap (λ (k : ℕ). no 26 k 1) e
 
-    pub read_judged : (line : ℕ) (r : Marking) → line ≡ foreign_entry (take count list) 0 (take drawing.nodes drawing.tree) → line ≡ 0
-        → Judged (take sheet.nodes sheet.tree) (take count list) (take sheet.marked sheet.marks) (take drawing.nodes drawing.tree) r
+    pub read_judged : (r : Marking) → foreign_entry gs 0 (take drawing.nodes drawing.tree) ≡ 0
+        → Judged (take sheet.nodes sheet.tree) gs (take sheet.marked sheet.marks) (take drawing.nodes drawing.tree) r
         → MarksRead q c (foreign_line q.groups 0 (split line_feed candidate)) r
-    read_judged line r e z J =
-        let none : foreign_entry (take count list) 0 (take drawing.nodes drawing.tree) ≡ 0 = sym e ∙ z in
-        let own : Over (is_in (take count list)) C.tree = none_foreign (take count list) C.tree (rw drawing_list at none) in
-        let over : Over (is_in (take count list)) Q.tree = rw groups_list (over_groups Q.tree) in
-        let few : length (take count list) ≤ most_groups = omega (arith, ap length groups_list, Q.different) in
+    read_judged r none J =
+        let own : Over (is_in gs) C.tree = none_foreign gs C.tree (rw drawing_list at none) in
+        let over : Over (is_in gs) Q.tree = rw groups_list (over_groups Q.tree) in
+        let few : length gs ≤ most_groups = omega (arith, ap length groups_list, Q.different) in
         rw (sym foreign_is ∙ none) (Q.tree, Q.is, C.tree, C.is, rw marks_list at (J.judged Q.tree C.tree sheet_list drawing_list few over own))
 
--- ---- `mark`: the numbers of the two answers tell which files are accepted
-module _ (question candidate : List ℕ) {sheet : Sheet} (e : sheet ≡ sheet_of (reading question)) where
+-- ---- `mark`: reading's two answers tell which files are accepted
+module _ (question candidate : List ℕ) where
   abbrev By : ReadingOutcome → ReadingOutcome → Marking → Type 0
   By o p r = MarksBy o p (λ groups. foreign_line groups 0 (split line_feed candidate)) r
 
-  pub marks_question : (sheet.number ≡ 0 → ⊥) → Marks question candidate (QuestionRefused sheet.number sheet.line)
-  marks_question n =
-      let numbered : sheet.number ≡ (sheet_of (reading question)).number = ap (λ (s : Sheet). s.number) e in
-      let says = ap₂ (λ (k l : ℕ). no k l 0) numbered (ap (λ (s : Sheet). s.line) e) in
-      record { by = subst (λ (o : ReadingOutcome). By o (read_with candidate_rules candidate) (QuestionRefused sheet.number sheet.line)) (sym (number_refused question (λ z. n (numbered ∙ z)))) says }
+  pub marks_question : (refusal : Refusal) → QuestionRead question (Err refusal) → Marks question candidate (Err refusal)
+  marks_question refusal e = record {
+    by = subst (λ (o : ReadingOutcome). By o (read_with candidate_rules candidate) (Err refusal)) (sym (sheet_refused (reading question) refusal.number refusal.line e.0)) (ap (λ (f : File). marking_says (Err (record { number = refusal.number; line = refusal.line; file = f }))) e.1);
+  }
 
-  module _ (z : sheet.number ≡ 0) {drawing : Drawing} (d : drawing ≡ drawing_of (read_with candidate_rules candidate)) where
-    accepted_question : (q : ReadingState) × (reading question ≡ accepted q)
-    accepted_question = number_accepted question (sym (ap (λ (s : Sheet). s.number) e) ∙ z)
+  module _ {sheet : Sheet} (e : QuestionRead question (Ok sheet)) where
+    accepted_question : (q : ReadingState) × (reading question ≡ accepted q) × (sheet ≡ sheet_with q)
+    accepted_question = sheet_accepted (reading question) e
 
-    pub marks_candidate : (drawing.number ≡ 0 → ⊥) → Marks question candidate (CandidateRefused drawing.number drawing.line)
-    marks_candidate n =
+    pub marks_candidate : (refusal : Refusal) → CandidateRead candidate (Err refusal) → Marks question candidate (Err refusal)
+    marks_candidate refusal d =
         let q = accepted_question in
-        let numbered : drawing.number ≡ (drawing_of (read_with candidate_rules candidate)).number = ap (λ (x : Drawing). x.number) d in
-        let says = ap₂ (λ (k l : ℕ). no k l 1) numbered (ap (λ (x : Drawing). x.line) d) in
         record {
-          by = subst (λ (o : ReadingOutcome). By o (read_with candidate_rules candidate) (CandidateRefused drawing.number drawing.line)) (sym q.1)
-              (subst (λ (p : ReadingOutcome). By (accepted q.0) p (CandidateRefused drawing.number drawing.line)) (sym (drawing_refused candidate (λ y. n (numbered ∙ y)))) says);
+          by = subst (λ (o : ReadingOutcome). By o (read_with candidate_rules candidate) (Err refusal)) (sym q.1)
+              (subst (λ (p : ReadingOutcome). By (accepted q.0) p (Err refusal)) (sym (drawing_refused (read_with candidate_rules candidate) refusal.number refusal.line d.0)) (ap (λ (f : File). marking_says (Err (record { number = refusal.number; line = refusal.line; file = f }))) d.1));
         }
 
-    pub both_read : drawing.number ≡ 0 → (q : ReadingState) × (c : ReadingState) × BothRead question candidate q c sheet drawing
-    both_read y =
-        let q = accepted_question in
-        let c = drawing_accepted candidate (sym (ap (λ (x : Drawing). x.number) d) ∙ y) in
-        (q.0, c.0, record { question_is = q.1; candidate_is = c.1; sheet_is = e ∙ ap sheet_of q.1; drawing_is = d ∙ ap drawing_of c.1 })
+    module _ {drawing : Drawing} (d : CandidateRead candidate (Ok drawing)) where
+      pub both_read : (q : ReadingState) × (c : ReadingState) × BothRead question candidate q c sheet drawing
+      both_read =
+          let q = accepted_question in
+          let c = drawing_accepted (read_with candidate_rules candidate) d in
+          (q.0, c.0, record { question_is = q.1; candidate_is = c.1; sheet_is = q.2; drawing_is = c.2 })
 
-    pub marks_read : drawing.number ≡ 0 → (r : Marking) → MarksAnswers sheet drawing r → Marks question candidate r
-    marks_read y r M =
-        let B = both_read y in
-        record { by = rw (B.2.question_is, B.2.candidate_is) (M question candidate B.0 B.1 B.2) }
+      pub marks_read : (r : Marking) → MarksAnswers sheet drawing r → Marks question candidate r
+      marks_read r M =
+          let B = both_read in
+          record { by = rw (B.2.question_is, B.2.candidate_is) (M question candidate B.0 B.1 B.2) }

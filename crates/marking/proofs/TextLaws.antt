@@ -12,7 +12,21 @@ use Rattle.text.proofs.DecimalLaws.{digits_length}
 use Rattle.text.proofs.LineLaws.{line_length}
 use Rattle.printing.specs.Key.{NO}
 use Rattle.printing.proofs.PrintingLaws.{line_three}
+use Rattle.marking.specs.Marking.{mark_number, file_number}
 use Rattle.marking.specs.Text.{MARK, line_bytes, in_line}
+use Rattle.marking.specs.declared.Verdict.{Verdict}
+use Rattle.marking.specs.declared.Verdict.TheVariants.{Right, OtherLamps, NotGathered}
+use Rattle.marking.specs.declared.File.{File}
+use Rattle.marking.specs.declared.File.TheVariants.{Question, Candidate}
+
+pub mark_small : (verdict : Verdict) → mark_number verdict ≤ 9
+mark_small Right = omega arith
+mark_small OtherLamps = omega arith
+mark_small NotGathered = omega arith
+
+pub file_small : (file : File) → file_number file ≤ 9
+file_small Question = omega arith
+file_small Candidate = omega arith
 
 pub mark_fits : (n : ℕ) → n ≤ 9 → length (line MARK (n ∷ [])) ≤ line_bytes
 unfolding fields_after

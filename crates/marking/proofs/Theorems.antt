@@ -6,6 +6,7 @@ use mathlib.Core.Option.{Option, some}
 use Prim.Native.Nat.{ℕ, zero, suc, ◌≤◌}
 use native.Mathlib.Omega.{arith}
 use lib.ListN.{length, take}
+use Rattle.std.specs.Prelude.{Ok, Err}
 use Rattle.common.specs.Exactly.{Exactly}
 use Rattle.tree.specs.Tree.{Tree, postfix, size, most_nodes, Over, Equivalent, is_in, groups, most_groups}
 use Rattle.tree.specs.Parse.{tree_of}
@@ -21,8 +22,8 @@ use Rattle.sheet.specs.Typed.{typed}
 use Rattle.sheet.proofs.AcceptedLaws.{Accepted, accepted_sheet_lem}
 use Rattle.sheet.proofs.TypedLaws.{typed_accepted}
 use Rattle.gather.specs.Gathering.{Gathered, CannotBeGathered}
-use Rattle.gather.specs.Answer.{GatheredTo, GathersTree, Gathers}
-use Rattle.gather.specs.declared.Gathering.TheVariants.{Done, Refused}
+use Rattle.gather.specs.Answer.{refusal_number, GatheredTo, GathersTree, Gathers}
+use Rattle.gather.specs.declared.Refusal.{Refusal}
 use Rattle.gather.proofs.AnswerLaws.{done_faultless, cannot_faultless}
 use Rattle.gather.proofs.WholeLaws.{faultless}
 use Rattle.moves.specs.Moves.{MoveTable}
@@ -30,9 +31,8 @@ use Rattle.moves.proofs.MoveLaws as moves
 use Rattle.lift.proofs.LiftLaws.{Keeps}
 use Rattle.lift_lines.specs.Lifting.{tree_after}
 use Rattle.lift_lines.proofs.LiftingLaws.{after_keeps}
-use Rattle.marking.specs.Marking.{mark, no, marking_says, foreign_line, GatheredFor, MarksTree, MarksRead, MarksBy, Marks}
-use Rattle.marking.specs.declared.Marking.{Marking}
-use Rattle.marking.specs.declared.Marking.TheVariants.{Right, OtherLamps, NotGathered, QuestionRefused, CandidateRefused}
+use Rattle.marking.specs.Marking.{Marking, mark, no, marking_says, foreign_line, GatheredFor, MarksTree, MarksRead, MarksBy, Marks}
+use Rattle.marking.specs.declared.Verdict.TheVariants.{Right, OtherLamps, NotGathered}
 use Rattle.marking.proofs.ForeignLaws.{foreign_lines, foreign_none}
 use Rattle.marking.proofs.MarkLaws.{gathered_some, gathered_for, gathered_none}
 
@@ -70,11 +70,10 @@ mark_given question candidate r m M s = go (reading question) refl (read_with ca
 
 -- ---- trees get one of the three marks, and never a refusal
 pub one_of_three : {t u : Tree} {marks : List ℕ} (r : Marking) → MarksTree t marks u r → (marking_says r ≡ mark 0) ⊎ ((marking_says r ≡ mark 1) ⊎ (marking_says r ≡ mark 2))
-one_of_three Right M = inl refl
-one_of_three OtherLamps M = inr (inl refl)
-one_of_three NotGathered M = inr (inr refl)
-one_of_three (QuestionRefused number line) M = no_mark (M.other_lamps.always (λ e. no_mark (M.not_gathered.always (e, λ g. no_mark (M.right.always (e, g))))))
-one_of_three (CandidateRefused number line) M = no_mark (M.other_lamps.always (λ e. no_mark (M.not_gathered.always (e, λ g. no_mark (M.right.always (e, g))))))
+one_of_three (Ok Right) M = inl refl
+one_of_three (Ok OtherLamps) M = inr (inl refl)
+one_of_three (Ok NotGathered) M = inr (inr refl)
+one_of_three (Err refusal) M = no_mark (M.other_lamps.always (λ e. no_mark (M.not_gathered.always (e, λ g. no_mark (M.right.always (e, g))))))
 
 -- ---- 1. "It says right exactly when the candidate's tree is equivalent and gathered."
 -- both files are accepted, the drawing is over the question's groups, equivalent to its tree and gathered for its marks, if it has any
@@ -178,7 +177,7 @@ module _ (question : List ℕ) (q : ReadingState) (e : reading question ≡ acce
         }
 
     -- 2. "The tree that our own gathering returns, typed as tree lines, is always marked right."
-    pub own_tree_right : (out out' : List ℕ) (nodes holder : ℕ) → Gathers (postfix (tree_after m t q.lifts)) q.marks out out' (Done nodes holder)
+    pub own_tree_right : (out out' : List ℕ) (nodes holder : ℕ) → Gathers (postfix (tree_after m t q.lifts)) q.marks out out' (Ok (record { nodes = nodes; holder = holder }))
         → (u : Tree) → tree_of (take nodes out') ≡ some u → (r : Marking) → Marks question (typed u) r → marking_says r ≡ mark 0
     unfolding GathersTree
     own_tree_right out out' nodes holder G u own r M =
@@ -188,10 +187,10 @@ module _ (question : List ℕ) (q : ReadingState) (e : reading question ≡ acce
         (right_exactly question (typed u) r M).always (subst (λ (x : Tree). RightDrawing question (typed x)) same (right_typed R.result holder R.equivalent R.gathered R.own R.most))
 
     -- so where our gathering of the tree that the lifts leave is refused with 19
-    pub never_right : (out out' : List ℕ) → Gathers (postfix (tree_after m t q.lifts)) q.marks out out' (Refused 19)
+    pub never_right : (out out' : List ℕ) (refusal : Refusal) → refusal_number refusal ≡ 19 → Gathers (postfix (tree_after m t q.lifts)) q.marks out out' (Err refusal)
         → (candidate : List ℕ) (r : Marking) → Marks question candidate r → marking_says r ≡ mark 0 → ⊥
     unfolding GathersTree
-    never_right out out' G =
-        let clear = cannot_faultless G in
+    never_right out out' refusal e G =
+        let clear = cannot_faultless e G in
         let C : CannotBeGathered (is_in q.marks) left = (G.gathers clear left left_is).2 in
         cannot_be_right (record { never = λ u p f g. C.never u p (equivalent_trans K.equivalent f) g }) (faultless _ _ _ clear).some_mark

@@ -1,5 +1,5 @@
 -- Request 5: the mark of a candidate's drawing, and the refusals before it.
-use Rattle.std.specs.Prelude.{◌≡◌, Bool, false, not, cond, List, [], ◌∷◌, ℕ, zero, suc, ◌+◌}
+use Rattle.std.specs.Prelude.{◌≡◌, Bool, false, not, cond, List, [], ◌∷◌, ℕ, zero, suc, ◌+◌, Option, Some, None, Result, Ok, Err}
 use Rattle.std.proofs.Math.Option.{some}
 use Rattle.common.specs.Exactly.{Exactly}
 use Rattle.tree.specs.Tree.{Tree, Equivalent, is_in}
@@ -10,10 +10,13 @@ use Rattle.sheet.specs.Rules.{candidate_rules}
 use Rattle.sheet.specs.Form.{line_of}
 use Rattle.sheet.specs.Reading.{ReadingState, ReadingOutcome, accepted, refused, read_with, reading}
 use Rattle.sheet.specs.declared.Line.{Line}
-use Rattle.sheet.specs.declared.Line.TheVariants.{Group, Operator, Lift, Mark, End, Bad}
+use Rattle.sheet.specs.declared.Line.TheVariants.{Group, Operator, Lift, Mark, End}
 use Rattle.gather.specs.Gathering.{Gathered}
-use Rattle.marking.specs.declared.Marking.{Marking}
-use Rattle.marking.specs.declared.Marking.TheVariants.{Right, OtherLamps, NotGathered, QuestionRefused, CandidateRefused}
+use Rattle.marking.specs.declared.Verdict.{Verdict}
+use Rattle.marking.specs.declared.Verdict.TheVariants.{Right, OtherLamps, NotGathered}
+use Rattle.marking.specs.declared.File.{File}
+use Rattle.marking.specs.declared.File.TheVariants.{Question, Candidate}
+use Rattle.marking.specs.declared.Refusal.{Refusal}
 
 -- ---- 02's number and values for each answer
 -- "`MARK` and 0 .., 1 .. or 2 .."; "A refusal prints `NO`, number, line, and 0 for the question's file or 1 for the candidate's."
@@ -21,23 +24,34 @@ pub data MarkAnswer : Type 0 where
   mark : ℕ → MarkAnswer
   no : (number line file : ℕ) → MarkAnswer
 
+-- what the call answers
+abbrev pub Marking : Type 0
+Marking = Result Verdict Refusal
+
 -- "0 for right, 1 for not the same lamps or 2 for not gathered"
+abbrev pub mark_number : Verdict → ℕ
+mark_number Right = 0
+mark_number OtherLamps = 1
+mark_number NotGathered = 2
+
+-- "0 for the question's file or 1 for the candidate's"
+abbrev pub file_number : File → ℕ
+file_number Question = 0
+file_number Candidate = 1
+
 abbrev pub marking_says : Marking → MarkAnswer
-marking_says Right = mark 0
-marking_says OtherLamps = mark 1
-marking_says NotGathered = mark 2
-marking_says (QuestionRefused number line) = no number line 0
-marking_says (CandidateRefused number line) = no number line 1
+marking_says (Ok verdict) = mark (mark_number verdict)
+marking_says (Err refusal) = no refusal.number refusal.line (file_number refusal.file)
 
 -- ---- "A group that isn't in its tree is refused with 26, at its first line in the candidate's file"
 -- a line with a group that is not among the question's
-abbrev pub is_foreign : List ℕ → Line → Bool
-is_foreign groups (Group g) = not (is_in groups g)
-is_foreign groups (Operator x) = false
-is_foreign groups (Lift p n) = false
-is_foreign groups (Mark g) = false
-is_foreign groups End = false
-is_foreign groups Bad = false
+abbrev pub is_foreign : List ℕ → Option Line → Bool
+is_foreign groups (Some (Group g)) = not (is_in groups g)
+is_foreign groups (Some (Operator x)) = false
+is_foreign groups (Some (Lift p n)) = false
+is_foreign groups (Some (Mark g)) = false
+is_foreign groups (Some End) = false
+is_foreign groups None = false
 
 -- the first such line's number, of lines after n others; 0 where there is none
 unfoldable pub foreign_line : List ℕ → ℕ → Parts → ℕ

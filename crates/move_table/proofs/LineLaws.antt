@@ -3,13 +3,19 @@ use mathlib.Core.Path.{◌≡◌, refl, sym, ap, ap₂, ◌∙◌}
 use mathlib.Core.Bool.{Bool, true, false, cond, ◌&&◌, ◌||◌, false≢true}
 use mathlib.Core.List.{List, [], ◌∷◌, ◌++◌, append-nil}
 use Prim.Native.Nat.{ℕ, zero, suc, ◌+◌, ◌-◌, ◌/◌, ◌%◌, ◌≤◌, ◌<◌}
-use native.Mathlib.Nat.{lt_of_lt_of_le}
 use native.Mathlib.Omega.{arith}
 use native.Mathlib.Numerals.{add-one}
 use borrow.Author.Tests.{eqb-true, eq-eqb, leb-true, le-leb}
-use lib.Dec.{T, eqb, leb, leb→le, eqb→eq}
-use lib.ListN.{length, get_or, take, drop, length-append}
+use lib.Dec.{T, eqb, leb, eqb→eq}
+use Rattle.std.proofs.lemmas.Bool.Decides.{nat_tests}
+use lib.Pointwise.{pointwise}
+use lib.ListN.{length-drop, length, get_or, take, drop, length-append}
 use lib.Seq.{drop-cons, drop-drop, take_at, drop_at, drop-append-add}
+use Rattle.std.specs.Prelude.{Option, Some, None}
+use Rattle.std.proofs.lemmas.Option.{cond_some, none-some}
+use Rattle.std.specs.Option.{MatchOption, unwrap_or}
+use Rattle.std.specs.List.{EachIndex, prefix_len}
+use Rattle.std.proofs.lemmas.List.Sums.{prefix_len_is}
 use Rattle.tree.specs.Tree.{Basic, plus, minus, is_up_to}
 use Rattle.tree.proofs.TreeLaws.{and_left, and_right}
 use Rattle.tree.proofs.PassLaws.{here}
@@ -38,15 +44,23 @@ pub allowed_last : (b : Bool) → allowed (cond b (operator minus) neither) ≡ 
 allowed_last true = refl
 allowed_last false = refl
 
-pub signs_here : (bytes : List ℕ) (i : ℕ) → i < length bytes → allowed (sign_of (get_or bytes i 0)) ≡ true → length (signs_in (drop i bytes)) ≡ length (signs_in (drop (i + 1) bytes)) + 1
-signs_here bytes i h e = rw (here bytes i h) (unfold signs_in in rw e (sym (add-one (length (signs_in (drop (i + 1) bytes))))))
-
-pub signs_end : (bytes : List ℕ) (i : ℕ) → i < length bytes → allowed (sign_of (get_or bytes i 0)) ≡ false → length (signs_in (drop i bytes)) ≡ 0
-signs_end bytes i h e = rw (here bytes i h) (unfold signs_in in rw e)
-
-pub signs_none : length (signs_in []) ≡ 0
+signs_prefix : (bytes : List ℕ) → prefix_len (λ b. allowed (sign_of b)) bytes ≡ length (signs_in bytes)
 unfolding signs_in
-signs_none = refl
+signs_prefix [] = refl
+signs_prefix (b ∷ bytes) = go (allowed (sign_of b)) (signs_prefix bytes)
+  where
+    go : (x : Bool) → prefix_len (λ b. allowed (sign_of b)) bytes ≡ length (signs_in bytes)
+        → cond x (1 + prefix_len (λ b. allowed (sign_of b)) bytes) 0 ≡ length (cond x (b ∷ signs_in bytes) [])
+    go true e = omega (arith, e)
+    go false e = refl
+
+-- the index of the first byte that is no sign, or the length where there is none
+pub signs_found : (bytes : List ℕ) (r : Option ℕ)
+    → MatchOption r (EachIndex bytes (λ k. allowed (sign_of (get_or bytes k 0)) ≡ true))
+    (λ i. (i < length bytes) × ((k : ℕ) → k < i → allowed (sign_of (get_or bytes k 0)) ≡ true) × (allowed (sign_of (get_or bytes i 0)) ≡ false))
+    → (unwrap_or r (length bytes) ≡ length (signs_in bytes)) × (unwrap_or r (length bytes) ≤ length bytes)
+signs_found bytes None h = (sym (prefix_len_is (λ b. allowed (sign_of b)) bytes (length bytes) 0 (omega arith) h (λ k. absurd (omega arith))) ∙ signs_prefix bytes, omega arith)
+signs_found bytes (Some i) h = (sym (prefix_len_is (λ b. allowed (sign_of b)) bytes i 0 (omega (arith, h.0)) h.1 (λ k. h.2)) ∙ signs_prefix bytes, omega (arith, h.0))
 
 -- the signs and what follows them make up the bytes
 signs_front : (bytes : List ℕ) → signs_in bytes ++ drop (length (signs_in bytes)) bytes ≡ bytes
@@ -115,10 +129,6 @@ pub place_of : (x : State) (i : Input) → place_at (place_number x i) ≡ recor
 unfolding place_at
 place_of = same_entry (λ x i. place_at (place_number x i)) (λ x i. record { state = x; input = i }) refl
 
--- a number below as many as there are, or fewer
-pub within : {n m : ℕ} → n < m → T (leb m 36) → n < 36
-within {n} {m} h t = lt_of_lt_of_le h (leb→le m 36 t)
-
 pub place_below : (x : State) (i : Input) → place_number x i < 36
 place_below x i = let s = state_range x in let n = input_range i in omega arith
 
@@ -168,38 +178,32 @@ unfolding starts_with
 starts_with_lem [] bytes = refl
 starts_with_lem (x ∷ xs) bytes = both_true (eq-eqb x x refl) (starts_with_lem xs bytes)
 
--- as the code asks for the four bytes before a word, and for the one after it
-pub starts_four : (x y z t : ℕ) (bytes : List ℕ) → 4 ≤ length bytes
-    → (eqb (get_or bytes 0 0) x && (eqb (get_or bytes 1 0) y && (eqb (get_or bytes 2 0) z && eqb (get_or bytes 3 0) t))) ≡ starts_with (x ∷ y ∷ z ∷ t ∷ []) bytes
+-- as the code asks for the bytes before a word, and for the one after it
+eqb_other : (x y : ℕ) → eqb x y ≡ eqb y x
+eqb_other x y = grind (arith, nat_tests)
+
+pub starts_pointwise : (xs bytes : List ℕ) → pointwise eqb xs (take (length xs) bytes) ≡ starts_with xs bytes
 unfolding starts_with
-starts_four x y z t [] h = absurd (omega arith)
-starts_four x y z t (a ∷ []) h = absurd (omega arith)
-starts_four x y z t (a ∷ b ∷ []) h = absurd (omega arith)
-starts_four x y z t (a ∷ b ∷ c ∷ []) h = absurd (omega arith)
-starts_four x y z t (a ∷ b ∷ c ∷ d ∷ bytes) h = ap (λ (u : Bool). eqb a x && (eqb b y && (eqb c z && u))) (sym (and_true (eqb d t)))
-  where
-    and_true : (u : Bool) → (u && true) ≡ u
-    and_true true = refl
-    and_true false = refl
+starts_pointwise [] bytes = refl
+starts_pointwise (x ∷ xs) [] = refl
+starts_pointwise (x ∷ xs) (b ∷ bytes) = ap₂ ◌&&◌ (eqb_other x b) (starts_pointwise xs bytes)
 
-pub starts_short : (x y z t : ℕ) (bytes : List ℕ) → length bytes < 4 → false ≡ starts_with (x ∷ y ∷ z ∷ t ∷ []) bytes
-starts_short x y z t bytes h = go (starts_with (x ∷ y ∷ z ∷ t ∷ []) bytes) refl
-  where
-    go : (u : Bool) → starts_with (x ∷ y ∷ z ∷ t ∷ []) bytes ≡ u → false ≡ u
-    go true e = absurd (let k = ap length (starts_front (x ∷ y ∷ z ∷ t ∷ []) bytes e) in omega arith)
-    go false e = refl
-
-pub starts_one : (x : ℕ) (bytes : List ℕ) (at : ℕ) → at < length bytes → eqb (get_or bytes at 0) x ≡ starts_with (x ∷ []) (drop at bytes)
+starts_one : (x : ℕ) (bytes : List ℕ) (at : ℕ) → at < length bytes → eqb (get_or bytes at 0) x ≡ starts_with (x ∷ []) (drop at bytes)
 starts_one x bytes at h = rw (here bytes at h) (unfold starts_with in go (eqb (get_or bytes at 0) x))
   where
     go : (u : Bool) → u ≡ (u && true)
     go true = refl
     go false = refl
 
-pub starts_none : (x : ℕ) (bytes : List ℕ) → length bytes ≡ 0 → false ≡ starts_with (x ∷ []) bytes
+starts_none : (x : ℕ) (bytes : List ℕ) → length bytes ≡ 0 → false ≡ starts_with (x ∷ []) bytes
 unfolding starts_with
 starts_none x [] h = refl
 starts_none x (b ∷ bytes) h = absurd (omega arith)
+
+pub starts_at : {X : Type 0} (bytes : List ℕ) (at : ℕ) (r : Option X) (b : Bool)
+    → MatchOption r ((length bytes ≤ at) × (b ≡ false)) (λ _. (at < length bytes) × (b ≡ eqb (get_or bytes at 0) line_feed)) → b ≡ starts_with (line_feed ∷ []) (drop at bytes)
+starts_at bytes at None b h = h.1 ∙ starts_none line_feed (drop at bytes) (simp length-drop (omega (arith, h.0)))
+starts_at bytes at (Some x) b h = h.1 ∙ starts_one line_feed bytes at h.0
 
 -- ---- lines
 -- a line of good form, of a word and the bytes after it
@@ -279,18 +283,7 @@ module _ (at : Place) {w : List ℕ} (W : IsWord w) (rest : List ℕ) where
 pub front_room : (at : Place) (bytes : List ℕ) → starts_with (front at) bytes ≡ true → 4 ≤ length bytes
 front_room at bytes e = let k = ap length (starts_front (front at) bytes e) in omega arith
 
-pub line_tested : (at : Place) (bytes : List ℕ) (n : ℕ) (ends b : Bool) → n ≡ length (word_in bytes) → starts_with (front at) bytes ≡ true
-    → ends ≡ starts_with (line_feed ∷ []) (drop (front_bytes + n) bytes) → (is_up_to most_signs n && ends) ≡ b → cond b n 0 ≡ line_signs at bytes
-line_tested at bytes n ends b e f g h =
-    let m : begins at bytes ≡ b =
-    ap₂ ◌&&◌ f (ap₂ (λ (k : ℕ) (x : Bool). is_up_to most_signs k && x) (sym e) (ap (λ (k : ℕ). starts_with (line_feed ∷ []) (drop (front_bytes + k) bytes)) (sym e) ∙ sym g)) ∙ h in
-    ap₂ (λ (x : Bool) (k : ℕ). cond x k 0) (sym m) e
-
-pub line_refused : (at : Place) (bytes : List ℕ) → starts_with (front at) bytes ≡ false → 0 ≡ line_signs at bytes
-line_refused at bytes f =
-    ap (λ (x : Bool). cond (x && (is_up_to most_signs (length (word_in bytes)) && starts_with (line_feed ∷ []) (drop (front_bytes + length (word_in bytes)) bytes))) (length (word_in bytes)) 0) (sym f)
-
--- what a count of signs that is not 0 says
+-- what a count of signs says
 pub record Counted (at : Place) (bytes : List ℕ) (n : ℕ) : Type 0 where
   pub is_line : begins at bytes ≡ true
   pub its_word : take n (drop front_bytes bytes) ≡ word_in bytes
@@ -298,32 +291,26 @@ pub record Counted (at : Place) (bytes : List ℕ) (n : ℕ) : Type 0 where
   pub few : n ≤ most_signs
   pub room : front_bytes + n + 1 ≤ length bytes
 
-pub line_counted : (at : Place) (bytes : List ℕ) (n : ℕ) → n ≡ line_signs at bytes → (n ≡ 0 → ⊥) → Counted at bytes n
-line_counted at bytes n e h = go (begins at bytes) refl e
-  where
-    go : (b : Bool) → begins at bytes ≡ b → n ≡ cond b (length (word_in bytes)) 0 → Counted at bytes n
-    go false f e = absurd (h e)
-    go true f e =
-        let L = line_front at bytes f in
-        let k = ap length L.text in
-        record {
-          is_line = f;
-          its_word = ap (take n) (sym (signs_front (drop front_bytes bytes))) ∙ take_at (word_in bytes) (drop (length (word_in bytes)) (drop front_bytes bytes)) n (sym e);
-          counted = e;
-          few = omega (arith, L.few_signs);
-          room = omega (arith, k, length-append (word_in bytes) (line_feed ∷ drop (line_bytes bytes) bytes));
-        }
+pub line_counted : (at : Place) (bytes : List ℕ) (n : ℕ) → line_signs at bytes ≡ Some n → Counted at bytes n
+line_counted at bytes n e =
+    let s = cond_some (begins at bytes) (length (word_in bytes)) n e in
+    let L = line_front at bytes s.0 in
+    let k = ap length L.text in
+    record {
+      is_line = s.0;
+      its_word = ap (take n) (sym (signs_front (drop front_bytes bytes))) ∙ take_at (word_in bytes) (drop (length (word_in bytes)) (drop front_bytes bytes)) n s.1;
+      counted = sym s.1;
+      few = omega (arith, L.few_signs, s.1);
+      room = omega (arith, k, length-append (word_in bytes) (line_feed ∷ drop (line_bytes bytes) bytes), s.1);
+    }
 
-pub not_counted : (at : Place) (bytes : List ℕ) (n : ℕ) → n ≡ line_signs at bytes → n ≡ 0 → begins at bytes ≡ false
-not_counted at bytes n e h = go (begins at bytes) refl e
+pub not_counted : (at : Place) (bytes : List ℕ) → line_signs at bytes ≡ None → begins at bytes ≡ false
+not_counted at bytes e = go (begins at bytes) refl e
   where
-    go : (b : Bool) → begins at bytes ≡ b → n ≡ cond b (length (word_in bytes)) 0 → begins at bytes ≡ false
+    go : (b : Bool) → begins at bytes ≡ b → cond b (Some (length (word_in bytes))) None ≡ None → begins at bytes ≡ false
     go false f e = f
-    go true f e = absurd (let s = (line_front at bytes f).some_signs in omega arith)
+    go true f e = absurd (none-some _ (sym e))
 
--- as the code takes a word, and that it is not too long
+-- as the code takes a word
 pub word_part : (at n : ℕ) (bytes : List ℕ) → take (front_bytes + n - front_bytes) (drop front_bytes (take (length bytes - at) (drop at bytes))) ≡ take n (drop front_bytes (drop at bytes))
 word_part at n bytes = ap₂ (λ (k : ℕ) (l : List ℕ). take k (drop front_bytes l)) (let z : front_bytes + n - front_bytes ≡ n = omega arith in z) (rest_all at bytes)
-
-pub word_few : (at : Place) (bytes : List ℕ) (n : ℕ) → Counted at bytes n → length (take n (drop front_bytes bytes)) ≤ most_signs
-word_few at bytes n line = rw line.its_word (omega (arith, line.counted, line.few))

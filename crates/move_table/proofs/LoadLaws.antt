@@ -8,6 +8,8 @@ use native.Mathlib.Omega.{arith}
 use lib.Dec.{T}
 use lib.ListN.{length, get_or, set, take, drop, replicate, length-append, length-drop, length-map, length-replicate, replicate-append-replicate, drop_of_length-le}
 use lib.Seq.{sets, sets-eq, take_at, drop_at, drop-drop, drop-append-add, set_at}
+use Rattle.std.specs.Prelude.{Some, None, Ok}
+use Rattle.text.proofs.PartsLaws.{rest_all}
 use Rattle.tree.specs.InnerWriting.{Wrote}
 use Rattle.tree.proofs.PassLaws.{here}
 use Rattle.words.specs.Formula.{Formula}
@@ -15,11 +17,11 @@ use Rattle.words.specs.Word.{word, most_signs, formula_of}
 use Rattle.words.proofs.ReadLaws.{formula_of_word, word_of_formula}
 use Rattle.moves.specs.Moves.{State, Input}
 use Rattle.moves.specs.LeftSides.{stands_for, if_stands, entry_for}
-use Rattle.left_sides.specs.InnerStands.{is_formula}
+use Rattle.left_sides.specs.InnerStands.{is_formula, StandsIs}
 use Rattle.move_table.specs.Loading.{Place, front_bytes, word_in, line_bytes, begins, Loaded, loaded, refused, onto, with_entry, load_from, loading}
 use Rattle.move_table.specs.Packing.{row, rows, lengths, loading_says}
 use Rattle.move_table.specs.InnerLoading.{place_at, line_signs}
-use Rattle.move_table.proofs.LineLaws.{remaining, remaining_more, remaining_none, line_of, IsWord, line_word, line_rest, line_begins, Counted, line_counted, not_counted}
+use Rattle.move_table.proofs.LineLaws.{remaining, remaining_more, remaining_none, line_of, IsWord, line_word, line_rest, line_begins, Counted, line_counted, not_counted, place_number_lem, word_part}
 
 -- ---- an entry
 pub record Entry (x : State) (i : Input) (w : List ℕ) (p : Formula) : Type 0 where
@@ -168,6 +170,14 @@ unfolding loading remaining onto_all rows
 nothing_loaded bytes signs ns e f = record { entries = []; count = refl; inside = omega arith; says = refl; filled = refl; in_rows = e; measured = f }
 
 -- ---- one line more
+-- the bytes from an index on, as the code takes them
+abbrev pub rest_of : List ℕ → ℕ → List ℕ
+rest_of bytes at = take (length bytes - at) (drop at bytes)
+
+-- a line of good form is whole
+pub line_room : (bytes : List ℕ) (place at n : ℕ) → Some n ≡ line_signs (place_at place) (rest_of bytes at) → front_bytes + n ≤ length (rest_of bytes at)
+line_room bytes place at n e = let line = line_counted (place_at place) (rest_of bytes at) n (sym e) in omega (arith, line.room)
+
 module _ (bytes : List ℕ) (place at : ℕ) (signs ns : List ℕ) (L : Loads bytes place at signs ns) where
   here_loads : (h : place < 36) → loading bytes ≡ onto_all L.entries (load_from (place_at place ∷ remaining (place + 1)) (place + 1) (drop at bytes))
   here_loads h = L.says ∙ ap (λ (l : List Place). onto_all L.entries (load_from l (place + 1) (drop at bytes))) (remaining_more place h)
@@ -175,17 +185,20 @@ module _ (bytes : List ℕ) (place at : ℕ) (signs ns : List ℕ) (L : Loads by
   stops : (number : ℕ) (h : place < 36) → load_from (place_at place ∷ remaining (place + 1)) (place + 1) (drop at bytes) ≡ refused number (place + 1) → loading bytes ≡ refused number (place + 1)
   stops number h e = here_loads h ∙ ap (onto_all L.entries) e ∙ onto_all_refused L.entries number (place + 1)
 
-  pub stops_at_line : place < 36 → (n : ℕ) → n ≡ line_signs (place_at place) (drop at bytes) → n ≡ 0 → loading bytes ≡ refused 28 (place + 1)
-  stops_at_line h n e z = stops 28 h (load_no_line (place_at place) (remaining (place + 1)) (place + 1) (drop at bytes) (not_counted (place_at place) (drop at bytes) n e z))
+  pub stops_at_line : place < 36 → line_signs (place_at place) (rest_of bytes at) ≡ None → loading bytes ≡ refused 28 (place + 1)
+  stops_at_line h e = stops 28 h (load_no_line (place_at place) (remaining (place + 1)) (place + 1) (drop at bytes) (not_counted (place_at place) (drop at bytes) (ap (line_signs (place_at place)) (sym (rest_all at bytes)) ∙ e)))
 
   -- where the line is of good form
-  module _ (h : place < 36) (n : ℕ) (e : n ≡ line_signs (place_at place) (drop at bytes)) (some_signs : n ≡ 0 → ⊥) (w : List ℕ) (part : w ≡ take n (drop front_bytes (drop at bytes)))
-      (fits : Bool) (told : fits ≡ is_formula (entry_for (place_at place).state (place_at place).input w)) where
+  module _ (h : place < 36) (n : ℕ) (e : Some n ≡ line_signs (place_at place) (rest_of bytes at)) (w : List ℕ) (part : w ≡ take (front_bytes + n - front_bytes) (drop front_bytes (rest_of bytes at)))
+      (fits : Bool) (told : StandsIs w place fits) where
     line : Counted (place_at place) (drop at bytes) n
-    line = line_counted (place_at place) (drop at bytes) n e some_signs
+    line = line_counted (place_at place) (drop at bytes) n (sym (e ∙ ap (line_signs (place_at place)) (rest_all at bytes)))
+
+    its_part : w ≡ word_in (drop at bytes)
+    its_part = part ∙ word_part at n bytes ∙ line.its_word
 
     its_entry : fits ≡ is_formula (entry_for (place_at place).state (place_at place).input (word_in (drop at bytes)))
-    its_entry = told ∙ ap (λ (w : List ℕ). is_formula (entry_for (place_at place).state (place_at place).input w)) (part ∙ line.its_word)
+    its_entry = told (place_at place).state (place_at place).input (sym (place_number_lem place h)) ∙ ap (λ (w : List ℕ). is_formula (entry_for (place_at place).state (place_at place).input w)) its_part
 
     pub stops_at_word : fits ≡ false → loading bytes ≡ refused 29 (place + 1)
     stops_at_word f =
@@ -199,7 +212,7 @@ module _ (bytes : List ℕ) (place at : ℕ) (signs ns : List ℕ) (L : Loads by
         let p = found.0 in
         let ps = L.entries in
         let E = entry_found (place_at place).state (place_at place).input (word_in rest) p found.1 in
-        let spelled : w ≡ word p = part ∙ line.its_word ∙ E.spelled in
+        let spelled : w ≡ word p = its_part ∙ E.spelled in
         let size : n ≡ length (word p) = line.counted ∙ ap length E.spelled in
         let short : length (word p) ≤ most_signs = omega (arith, line.few) in
         record {
@@ -222,14 +235,14 @@ module _ (bytes : List ℕ) (place at : ℕ) (signs ns : List ℕ) (L : Loads by
     past_loads : loading bytes ≡ onto_all L.entries (load_from [] (place + 1) (drop at bytes))
     past_loads = L.says ∙ ap (λ (l : List Place). onto_all L.entries (load_from l (place + 1) (drop at bytes))) (remaining_none place h)
 
-    pub stops_past : at < length bytes → loading bytes ≡ refused 28 (place + 1)
-    stops_past k = past_loads ∙ ap (onto_all L.entries) (ap (load_from [] (place + 1)) (here bytes at k) ∙ load_past (place + 1) (get_or bytes at 0) (drop (at + 1) bytes)) ∙ onto_all_refused L.entries 28 (place + 1)
+    pub stops_past : at < length bytes → loading bytes ≡ refused 28 37
+    stops_past k = past_loads ∙ ap (onto_all L.entries) (ap (load_from [] (place + 1)) (here bytes at k) ∙ load_past (place + 1) (get_or bytes at 0) (drop (at + 1) bytes)) ∙ onto_all_refused L.entries 28 (place + 1) ∙ ap (refused 28) (let z : place + 1 ≡ 37 = omega arith in z)
 
-    pub all_loaded : length bytes ≤ at → record { number = 0; line = 0; table = record { signs = signs; lengths = ns } } ≡ loading_says (loading bytes)
+    pub all_loaded : length bytes ≤ at → Ok (record { signs = signs; lengths = ns }) ≡ loading_says (loading bytes)
     all_loaded k =
         let e : loading bytes ≡ loaded L.entries =
         past_loads ∙ ap (onto_all L.entries) (ap (load_from [] (place + 1)) (drop_of_length-le bytes k) ∙ load_done (place + 1)) ∙ onto_all_loaded L.entries in
-        ap₂ (λ (l m : List ℕ). record { number = 0; line = 0; table = record { signs = l; lengths = m } })
+        ap₂ (λ (l m : List ℕ). Ok (record { signs = l; lengths = m }))
         (L.in_rows ∙ ap (λ (k : ℕ). rows L.entries ++ replicate (1116 - most_signs * k) 0) h ∙ append-nil (rows L.entries))
         (L.measured ∙ ap (λ (k : ℕ). lengths L.entries ++ replicate (36 - k) 0) h ∙ append-nil (lengths L.entries))
         ∙ sym (ap loading_says e)

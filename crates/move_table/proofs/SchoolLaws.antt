@@ -10,6 +10,7 @@ use borrow.Author.Tests.{eqb-true, leb-true, le-leb}
 use lib.Dec.{T, eqb, leb, eqb→eq}
 use lib.ListN.{length, get_or, take, drop, replicate, length-append, length-drop, length-map, take-append-drop, drop_of_length-le}
 use lib.Seq.{take_at, drop_at, drop-cons, drop-append-add, length-take-le}
+use Rattle.std.specs.Prelude.{Ok, Err}
 use Rattle.tree.specs.Tree.{is_up_to}
 use Rattle.tree.proofs.TreeLaws.{and_left, and_right}
 use Rattle.words.specs.Formula.{Formula, A}
@@ -20,10 +21,10 @@ use Rattle.moves.specs.LeftSides.{stands_for, entry_for}
 use Rattle.moves.specs.InnerEntries.{WordsHeld, TableBy, TableIs}
 use Rattle.moves.proofs.MoveLaws.{Right, school_right}
 use Rattle.move_table.specs.Loading.{Place, places, word_in, line_bytes, begins, Loaded, loaded, refused, onto, load_from, loading, entry_in, school_table}
-use Rattle.move_table.specs.Packing.{row, rows, lengths, packed, loading_says, all_zero, entry_of_row, before, entries_of, unpacked}
+use Rattle.move_table.specs.Packing.{row, rows, lengths, packed, fault_number, load_says, loading_says, all_zero, entry_of_row, before, entries_of, unpacked}
 use Rattle.move_table.specs.InnerLoading.{place_at, is_table}
 use Rattle.move_table.specs.declared.LoadedTable.{LoadedTable}
-use Rattle.move_table.specs.declared.LoadAnswer.{LoadAnswer}
+use Rattle.move_table.specs.declared.Refusal.{Refusal}
 use Rattle.move_table.proofs.LineLaws.{both_true, word_positive, numbered, places_numbered, place_of, place_below, line_of, line_front, formula_word}
 use Rattle.move_table.proofs.LoadLaws.{entry_found, entry_of_word, load_cases, load_line, row_length}
 
@@ -309,22 +310,21 @@ unfolding loading
 refused_fault bytes number line e = refused_from places 1 bytes number line e
 
 -- ---- what the code's answers say
-module _ (bytes : List ℕ) (r : LoadAnswer) (e : r ≡ loading_says (loading bytes)) where
-  pub answer_loaded : r.number ≡ 0 → (ps : List Formula) × (loading bytes ≡ loaded ps) × (r.table ≡ packed ps)
-  answer_loaded z = go (loading bytes) refl
-    where
-      go : (l : Loaded) → loading bytes ≡ l → (ps : List Formula) × (loading bytes ≡ loaded ps) × (r.table ≡ packed ps)
-      go (loaded ps) f = (ps, f, ap (λ (r : LoadAnswer). r.table) (e ∙ ap loading_says f))
-      go (refused number line) f =
-          let same : r.number ≡ number = ap (λ (r : LoadAnswer). r.number) (e ∙ ap loading_says f) in
-          absurd (omega (arith, (refused_fault bytes number line f).least))
+pub table_loaded : (bytes : List ℕ) (t : LoadedTable) → load_says (Ok t) ≡ loading_says (loading bytes) → (ps : List Formula) × (loading bytes ≡ loaded ps) × (t ≡ packed ps)
+table_loaded bytes t e = go (loading bytes) refl e
+  where
+    go : (l : Loaded) → loading bytes ≡ l → load_says (Ok t) ≡ loading_says l → (ps : List Formula) × (loading bytes ≡ loaded ps) × (t ≡ packed ps)
+    go (loaded ps) f e = (ps, f, cc)
+    go (refused number line) f e = absurd (let z : ◌≡◌ {A = ℕ} 0 1 = cc in omega arith)
 
-  pub answer_refused : (r.number ≡ 0 → ⊥) → loading bytes ≡ refused r.number r.line
-  answer_refused h = go (loading bytes) refl
-    where
-      go : (l : Loaded) → loading bytes ≡ l → loading bytes ≡ refused r.number r.line
-      go (loaded ps) f = absurd (h (ap (λ (r : LoadAnswer). r.number) (e ∙ ap loading_says f)))
-      go (refused number line) f = f ∙ sym (ap (λ (r : LoadAnswer). refused r.number r.line) (e ∙ ap loading_says f))
+pub table_refused : (bytes : List ℕ) (r : Refusal) → load_says (Err r) ≡ loading_says (loading bytes) → loading bytes ≡ refused (fault_number r.fault) r.line
+table_refused bytes r e = go (loading bytes) refl e
+  where
+    go : (l : Loaded) → loading bytes ≡ l → load_says (Err r) ≡ loading_says l → loading bytes ≡ refused (fault_number r.fault) r.line
+    go (loaded ps) f e = absurd (let z : ◌≡◌ {A = ℕ} 0 1 = cc in omega arith)
+    go (refused number line) f e =
+        let p : (fault_number r.fault, r.line) ≡ (number, line) = cc in
+        f ∙ ap (λ (q : ℕ × ℕ). refused q.0 q.1) (sym p)
 
 pub has_entries : (o : Option (List Formula)) → is_table o ≡ true → (ps : List Formula) × (o ≡ some ps)
 has_entries (some ps) e = (ps, refl)

@@ -1,5 +1,5 @@
 -- A loaded table by value: what `load` answers, and which tables loading makes.
-use Rattle.std.specs.Prelude.{Bool, true, cond, ◌&&◌, List, [], ◌∷◌, ◌++◌, map, ℕ, ◌-◌, eqb, length, take, drop, replicate}
+use Rattle.std.specs.Prelude.{Bool, true, cond, ◌&&◌, List, [], ◌∷◌, ◌++◌, map, ℕ, ◌-◌, eqb, length, take, drop, replicate, Result, Ok, Err}
 use Rattle.std.proofs.Math.Option.{Option, some, none}
 use Rattle.tree.specs.Tree.{is_up_to}
 use Rattle.words.specs.Formula.{Formula}
@@ -8,7 +8,9 @@ use Rattle.moves.specs.Moves.{MoveTable}
 use Rattle.moves.specs.LeftSides.{entry_for}
 use Rattle.move_table.specs.Loading.{Place, places, Loaded, loaded, refused, school_table}
 use Rattle.move_table.specs.declared.LoadedTable.{LoadedTable}
-use Rattle.move_table.specs.declared.LoadAnswer.{LoadAnswer}
+use Rattle.move_table.specs.declared.Fault.{Fault}
+use Rattle.move_table.specs.declared.Fault.TheVariants.{BadLine, BadWord}
+use Rattle.move_table.specs.declared.Refusal.{Refusal}
 
 -- a word in its row: zeros behind it
 abbrev pub row : List ℕ → List ℕ
@@ -30,10 +32,20 @@ packed ps = record { signs = rows ps; lengths = lengths ps }
 abbrev pub empty : LoadedTable
 empty = record { signs = replicate 1116 0; lengths = replicate 36 0 }
 
--- what `load` answers: the table, or the fault's number and line
-abbrev pub loading_says : Loaded → LoadAnswer
-loading_says (loaded ps) = record { number = 0; line = 0; table = packed ps }
-loading_says (refused number line) = record { number = number; line = line; table = empty }
+-- 28 "is no such line"; 29 "makes no tree, or fails otherwise"
+abbrev pub fault_number : Fault → ℕ
+fault_number BadLine = 28
+fault_number BadWord = 29
+
+-- what `load` answers, by the faults' numbers: the table, or the fault's number and line
+abbrev pub load_says : Result LoadedTable Refusal → Result LoadedTable (ℕ × ℕ)
+load_says (Ok table) = Ok table
+load_says (Err refusal) = Err (fault_number refusal.fault, refusal.line)
+
+-- and for what loading comes to
+abbrev pub loading_says : Loaded → Result LoadedTable (ℕ × ℕ)
+loading_says (loaded ps) = Ok (packed ps)
+loading_says (refused number line) = Err (number, line)
 
 -- ---- a table by value that anyone hands over
 -- nothing but zeros

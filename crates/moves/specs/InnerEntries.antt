@@ -1,8 +1,11 @@
 -- The numbers by which the code's tables are read, a table's entry, and what functions answer of these. No contract of one of 01's calls cites this file.
-use Rattle.std.specs.Prelude.{◌≡◌, List, [], ◌∷◌, ◌++◌, ℕ, ◌-◌, ◌*◌, ◌%◌, ◌≤◌, T, leb, length, get_or, take, drop, replicate, Bool, true, false}
+use Rattle.std.specs.Prelude.{◌≡◌, List, [], ◌∷◌, ◌++◌, ℕ, ◌-◌, ◌*◌, ◌%◌, ◌≤◌, T, leb, length, get_or, take, drop, replicate, Bool, true, false, Some, None}
+use Rattle.std.specs.Prelude.{Option as Maybe}
 use Rattle.std.proofs.Math.Option.{Option, some, none}
+use Rattle.tree.specs.declared.Operand.{Operand}
+use Rattle.tree.specs.declared.Operand.TheVariants.{LeftOfUnion, LeftOfDifference, RightOfUnion, RightOfDifference}
 use Rattle.words.specs.Formula.{Formula, once}
-use Rattle.moves.specs.Moves.{State, state_number, Input, input_number, Move, MoveTable, school, place_number, replace_t, replace_t_with_d, ours}
+use Rattle.moves.specs.Moves.{State, state_number, Input, input_number, under, Move, MoveTable, school, place_number, replace_t, replace_t_with_d, ours}
 use Rattle.moves.specs.LeftSides.{stands_for}
 use Rattle.moves.specs.NextState.{left_above, state_after}
 use Rattle.words.specs.Word.{most_signs, word}
@@ -13,10 +16,29 @@ abbrev pub optional_number : Option State → ℕ
 optional_number (some x) = state_number x
 optional_number none = 0
 
--- n is an input's number or, from 4 on, stands for none
-abbrev pub InputIs : ℕ → Option Input → Type 0
-InputIs n (some i) = n ≡ input_number i
-InputIs n none = 4 ≤ n
+-- the same as the code has it, with nothing where there is none
+abbrev pub number_of : Option State → Maybe ℕ
+number_of (some x) = Some (state_number x)
+number_of none = None
+
+-- an input as the code has it: which operand T is
+abbrev pub input_operand : Input → Operand
+input_operand i = under i LeftOfUnion LeftOfDifference RightOfUnion RightOfDifference
+
+abbrev pub InputIs : Maybe Operand → Option Input → Type 0
+InputIs n (some i) = n ≡ Some (input_operand i)
+InputIs n none = n ≡ None
+
+-- an input's place in a row of the move table, a's where there is none
+abbrev pub operand_number : Operand → ℕ
+operand_number LeftOfUnion = 0
+operand_number LeftOfDifference = 1
+operand_number RightOfUnion = 2
+operand_number RightOfDifference = 3
+
+abbrev pub column : Maybe Operand → ℕ
+column None = 0
+column (Some k) = operand_number k
 
 -- an entry of the move table
 abbrev pub entry_of : Move → Input → Formula
@@ -55,9 +77,9 @@ abbrev pub LeavesTwoUnder : List ℕ → Move → Option Input → Type 0
 LeavesTwoUnder w v (some i) = LeavesTwo w v i
 LeavesTwoUnder w v none = Unit {0}
 
--- the number of the state after a step, by its word, whether T alone is replaced, and the input's number: for whichever move that is
-abbrev pub NextIs : List ℕ → Bool → ℕ → ℕ → Type 0
-NextIs w b input r = (v : Move) (i : Option Input) → only_t v ≡ b → InputIs input i → LeavesTwoUnder w v i → r ≡ optional_number (state_after v i)
+-- the number of the state after a step, by its word, whether T alone is replaced, and the input: for whichever move that is
+abbrev pub NextIs : List ℕ → Bool → Maybe Operand → Maybe ℕ → Type 0
+NextIs w b input r = (v : Move) (i : Option Input) → only_t v ≡ b → InputIs input i → LeavesTwoUnder w v i → r ≡ number_of (state_after v i)
 
 -- ---- a table as the code holds it
 -- a school's words: their signs, in rows of 31, and their lengths

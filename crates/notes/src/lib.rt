@@ -1,5 +1,5 @@
 // What the coders of both devices share: notes of a tree's nodes and, by them, a node's children in the order of their code; an
-// operator's kind; an instruction's four numbers, written.
+// instruction's four numbers, written; an operator's kind.
 //
 // One pass over the tree's list notes where each node's part begins and what it needs. With these notes a node's children
 // are found from its entry: the right one is the entry before, the left one the entry before the right part's start.
@@ -22,53 +22,79 @@ pub struct Children {
     pub left: bool,
 }
 
+impl Children {
+    // The registers of the left child and of the right one, from those of the first and of the second.
+    pub fn left_and_right(self, first: u16, second: u16) -> (u16, u16)
+        ensures left { result.0 ≡ cond self.left first second }
+        ensures right { result.1 ≡ cond self.left second first }
+    {
+        if self.left {
+            (first, second)
+        } else {
+            (second, first)
+        }
+    }
+}
+
+// What is noted of a node: where its part begins, and what it needs.
+#[derive(Clone, Copy)]
+pub struct Note {
+    pub start: u16,
+    pub need: u8,
+}
+
+// What stands in an array before a tree's nodes are noted in it.
+pub const NO_NOTE: Note = Note { start: 0, need: 0 };
+
+// A tree's list, with a note of each of its nodes.
+#[derive(Clone, Copy)]
+pub struct NotedTree<'a> {
+    pub tree: &'a [u16],
+    pub notes: &'a [Note; tree::MOST_NODES],
+    pub ghost is_tree: { is_some (tree_of tree.now) ≡ true },
+    pub ghost noted: { Noted tree.now notes.now },
+}
+
 // The need of a node whose children need a and b.
 fn need_of(a: u8, b: u8) -> u8
     requires { a < 255 }
     ensures { result ≡ need_of a b }
 {
-    if a == b {
-        return a + 1;
-    }
-    if a < b { b } else { a }
+    if a == b { a + 1 } else { a.max(b) }
 }
 
-// Notes of each node of a tree where its part begins and what it needs.
-pub fn note_nodes(
-    tree: &[u16],
-    starts: &mut [u16; tree::MOST_NODES],
-    needs: &mut [u8; tree::MOST_NODES],
-)
-    requires { (is_some (tree_of tree.now) ≡ true) × (length starts.old ≡ most_nodes) × (length needs.old ≡ most_nodes) }
-    ensures { Noted tree.now starts.new needs.new }
-{
-    let mut i = 0;
-    while i < tree.len() {
-        if tree[i] < tree::UNION {
-            starts[i] = i as u16;
-            needs[i] = 1;
-            i += 1;
-        } else {
-            let left = (starts[i - 1] as usize) - 1;
-            starts[i] = starts[left];
-            needs[i] = need_of(needs[left], needs[i - 1]);
-            i += 1;
+impl<'a> NotedTree<'a> {
+    // Notes each node of a tree, in an array that is lent: one that is returned is copied, and then a small tree's code took two thirds longer.
+    pub fn new(tree: &'a [u16], notes: &'a mut [Note; tree::MOST_NODES]) -> NotedTree<'a>
+        requires { is_some (tree_of tree.now) ≡ true }
+        ensures { result.tree.now ≡ tree.now }
+    {
+        for (i, x) in tree.iter().enumerate() {
+            notes[i] = if *x < tree::UNION {
+                Note {
+                    start: i as u16,
+                    need: 1,
+                }
+            } else {
+                let left = usize::from(notes[i - 1].start) - 1;
+                Note {
+                    start: notes[left].start,
+                    need: need_of(notes[left].need, notes[i - 1].need),
+                }
+            };
         }
+        NotedTree { tree, notes }
     }
 }
 
-// The children of the node at `end`.
-pub fn children_of(
-    starts: &[u16; tree::MOST_NODES],
-    needs: &[u8; tree::MOST_NODES],
-    end: usize,
-) -> Children
-    requires { HasChildren starts.now end }
-    ensures { ChildrenInOrder starts.now needs.now end result.first result.second result.left }
+// The children of the node at `end`, by any notes that say where they are.
+pub fn children_of(notes: &[Note; tree::MOST_NODES], end: usize) -> Children
+    requires { HasChildren notes.now end }
+    ensures { ChildrenInOrder notes.now end result.first result.second result.left }
 {
     let right = end - 1;
-    let left = (starts[right] as usize) - 1;
-    if needs[right] <= needs[left] {
+    let left = usize::from(notes[right].start) - 1;
+    if notes[right].need <= notes[left].need {
         Children {
             first: left,
             second: right,
@@ -83,22 +109,16 @@ pub fn children_of(
     }
 }
 
-// The first register if the left child comes first, else the second.
-pub fn pick(left: bool, a: u16, b: u16) -> u16
-    ensures { result ≡ cond left a b }
-{
-    if left { a } else { b }
-}
-
-// Writes an instruction's four numbers from index `at` on, and returns the index after them.
-pub fn put(out: &mut [u16], at: usize, kind: u16, target: u16, s: u16, t: u16) -> usize
+// Writes an instruction's four numbers from index `at` on, and returns the index after them. With `copy_from_slice` in place of the four
+// stores the older player's code took a fifteenth longer.
+pub fn put(out: &mut [u16], at: usize, four: [u16; 4]) -> usize
     requires { at + 4 ≤ length out.old }
-    ensures { Wrote out.old at out.new result (kind ∷ target ∷ s ∷ t ∷ []) }
+    ensures { Wrote out.old at out.new result four }
 {
-    out[at] = kind;
-    out[at + 1] = target;
-    out[at + 2] = s;
-    out[at + 3] = t;
+    out[at] = four[0];
+    out[at + 1] = four[1];
+    out[at + 2] = four[2];
+    out[at + 3] = four[3];
     at + 4
 }
 
@@ -106,11 +126,9 @@ pub fn put(out: &mut [u16], at: usize, kind: u16, target: u16, s: u16, t: u16) -
 pub fn kind_of(x: u16) -> u16
     ensures { (o : Operator) → x ≡ sign o → result ≡ kind_of (operation o) }
 {
-    if x == tree::UNION {
-        return player::ADD;
+    match x {
+        tree::UNION => player::ADD,
+        tree::DIFFERENCE => player::CUT,
+        _ => player::BOTH,
     }
-    if x == tree::DIFFERENCE {
-        return player::CUT;
-    }
-    player::BOTH
 }

@@ -27,9 +27,10 @@ use Rattle.code.proofs.NeedLaws.{first, second, need_node, need_positive, need_m
 use Rattle.code.proofs.WaitingLaws.{also_waiting, lowest_most, none_alike, none_waiting}
 use Rattle.code.proofs.CodeLaws as laws
 use Rattle.code.proofs.OlderLaws.{older_acts, older_length}
-use Rattle.notes.specs.InnerNotes.{NodeAt, Noted, HasChildren, ChildrenInOrder}
+use Rattle.notes.specs.declared.Note.{Note}
+use Rattle.notes.specs.InnerNotes.{NodeAt, note_at, Noted, HasChildren, ChildrenInOrder}
 use Rattle.notes.proofs.NoteLaws.{as_leaf, node_inside, split, node_one, node_two, below_one, below_two, left_came}
-use Rattle.coder.specs.declared.Coded.TheVariants.{Done}
+use Rattle.std.proofs.Common.{Ok}
 use Rattle.coder.proofs.CodingLaws.{root_node, all_written}
 use Rattle.older_coder.specs.Coding.{least_buffer, Encodes}
 use Rattle.older_coder.specs.InnerWriter.{waiting_in, behind, Writable, WrotePart}
@@ -60,8 +61,8 @@ abbrev pub Writes : List ℕ → ℕ → List Bool → List ℕ → ℕ → List
 Writes l e w out at out' register = (a : Tree) → NodeAt l e a → WrotePart out at out' register w a
 
 -- a node's code ends where the notes say
-pub behind_size : {l s n : List ℕ} {e : ℕ} {a : Tree} → Noted l s n → NodeAt l e a → (at : ℕ) → behind s e at ≡ at + 4 * size a
-behind_size {l} {s} {n} {e} {a} N v at = omega (arith, N.all.start e a v (node_inside v), v.is.ends)
+pub behind_size : {l : List ℕ} {n : List Note} {e : ℕ} {a : Tree} → Noted l n → NodeAt l e a → (at : ℕ) → behind n e at ≡ at + 4 * size a
+behind_size {l} {n} {e} {a} N v at = omega (arith, N.all.start e a v (node_inside v), v.is.ends)
 
 leaf_ends : {out out' : List ℕ} {at next a b c d : ℕ} → Wrote out at out' next (a ∷ b ∷ c ∷ d ∷ []) → (g : ℕ) (h : T (is_group g)) → next ≡ at + 4 * size (leaf g h)
 unfolding size
@@ -75,31 +76,31 @@ module _ (l : List ℕ) (e : ℕ) (w : List Bool) where
       rw z.1 (record { code = ends_at (leaf_ends p _ z.0) (wrote_as p (rw r (sym (numbers_leaf w _ z.0)))); result = r ∙ rw (laws.part_leaf older_player w _ z.0) })
 
 -- what `behind` asks
-pub record Behind (s : List ℕ) (end at : ℕ) (out : List ℕ) : Type 0 where
+pub record Behind (n : List Note) (end at : ℕ) (out : List ℕ) : Type 0 where
   pub high : end < most_nodes
-  pub low : get_or s end 0 ≤ end
-  pub inside : behind s end at ≤ length out
+  pub low : (note_at n end).start ≤ end
+  pub inside : behind n end at ≤ length out
 
-pub behind_asks : {l s n out : List ℕ} {e : ℕ} {a : Tree} → Noted l s n → NodeAt l e a → (at : ℕ) → at + 4 * size a ≤ length out → Behind s e at out
-behind_asks {l} {s} {n} {out} {e} {a} N v at h = record {
+pub behind_asks : {l : List ℕ} {n : List Note} {out : List ℕ} {e : ℕ} {a : Tree} → Noted l n → NodeAt l e a → (at : ℕ) → at + 4 * size a ≤ length out → Behind n e at out
+behind_asks {l} {n} {out} {e} {a} N v at h = record {
   high = omega (arith, node_inside v, N.few);
   low = omega (arith, N.all.start e a v (node_inside v), v.is.ends, size_positive a);
   inside = omega (arith, behind_size N v at);
 }
 
 -- what the two calls for the children ask, and the operator's own instruction
-pub record Ready (l s n : List ℕ) (e : ℕ) (w : List Bool) (out : List ℕ) (at one two : ℕ) : Type 0 where
+pub record Ready (l : List ℕ) (n : List Note) (e : ℕ) (w : List Bool) (out : List ℕ) (at one two : ℕ) : Type 0 where
   pub less_one : one < e
   pub less_two : two < e
-  pub first_call : Writable l s n one w out at
+  pub first_call : Writable l one w out at
   pub register : (out₁ : List ℕ) (r : ℕ) → Writes l one w out at out₁ r → (r < register_count) × (get_or w r false ≡ false)
-  pub first_behind : Behind s one at out
-  pub second_call : (out₁ : List ℕ) (r next : ℕ) → next ≡ behind s one at → Writes l one w out at out₁ r → Writable l s n two (also_in w r) out₁ next
-  pub second_behind : (next : ℕ) → next ≡ behind s one at → Behind s two next out
-  pub own_room : (out₁ out₂ : List ℕ) (r next last q : ℕ) → next ≡ behind s one at → last ≡ behind s two next
+  pub first_behind : Behind n one at out
+  pub second_call : (out₁ : List ℕ) (r next : ℕ) → next ≡ behind n one at → Writes l one w out at out₁ r → Writable l two (also_in w r) out₁ next
+  pub second_behind : (next : ℕ) → next ≡ behind n one at → Behind n two next out
+  pub own_room : (out₁ out₂ : List ℕ) (r next last q : ℕ) → next ≡ behind n one at → last ≡ behind n two next
       → Writes l one w out at out₁ r → Writes l two (also_in w r) out₁ next out₂ q → last + 4 ≤ length out₂
 
-module _ {l s n : List ℕ} {e : ℕ} {w : List Bool} {out : List ℕ} {at : ℕ} (W : Writable l s n e w out at) where
+module _ {l : List ℕ} {e : ℕ} {w : List Bool} {out : List ℕ} {at : ℕ} (W : Writable l e w out at) where
   pub end_inside : e < length l
   end_inside = node_inside W.root
 
@@ -109,56 +110,55 @@ module _ {l s n : List ℕ} {e : ℕ} {w : List Bool} {out : List ℕ} {at : ℕ
   pub lowest_inside : lowest w < register_count
   lowest_inside = omega (arith, W.registers, lowest_most w, need_positive W.part)
 
-  module _ (le : sign union ≤ get_or l e 0) where
-    pub inner_node : HasChildren s e
+  module _ {n : List Note} (N : Noted l n) (le : sign union ≤ get_or l e 0) where
+    pub inner_node : HasChildren n e
     inner_node = go W.part W.root
       where
-        go : (a : Tree) → NodeAt l e a → HasChildren s e
+        go : (a : Tree) → NodeAt l e a → HasChildren n e
         go (leaf g h) v = absurd (omega (arith, part_leaf e v.is, group_most g h))
-        go (node o x y) v = (split v W.noted.all (omega (arith, end_inside))).inner (omega (arith, end_inside, W.noted.few))
+        go (node o x y) v = (split v N.all (omega (arith, end_inside))).inner (omega (arith, end_inside, N.few))
 
-    pub ready : {one two : ℕ} {f : Bool} → ChildrenInOrder s n e one two f → Ready l s n e w out at one two
+    pub ready : {one two : ℕ} {f : Bool} → ChildrenInOrder n e one two f → Ready l n e w out at one two
     ready {one} {two} {f} O = go W.part W.root W.registers W.room
       where
-        go : (a : Tree) → NodeAt l e a → waiting w + need a ≤ register_count → at + 4 * size a ≤ length out → Ready l s n e w out at one two
+        go : (a : Tree) → NodeAt l e a → waiting w + need a ≤ register_count → at + 4 * size a ≤ length out → Ready l n e w out at one two
         go (leaf g h) v r q = absurd (omega (arith, part_leaf e v.is, group_most g h))
         go (node o x y) v r q =
-            let S = split v W.noted.all (omega (arith, end_inside)) in
-            let N = need_node o x y in
+            let S = split v N.all (omega (arith, end_inside)) in
+            let node_need = need_node o x y in
             let Z = laws.size_node o x y in
             let u = node_one S O in
             let t = node_two S O in
             let F = (laws.named older_player older_effect older_acts w (first x y)).register in
-            let B = behind_size W.noted u at in
+            let B = behind_size N u at in
             record {
               less_one = below_one S O;
               less_two = below_two S O;
-              first_call = record { part = first x y; root = u; noted = W.noted; registers = omega arith; room = omega arith };
+              first_call = record { part = first x y; root = u; registers = omega arith; room = omega arith };
               register = λ out₁ k c. let z = (c (first x y) u).result in (omega (arith, z, F.below), rw z F.outside);
-              first_behind = behind_asks W.noted u at (omega arith);
+              first_behind = behind_asks N u at (omega arith);
               second_call = λ out₁ k next m c. let d = (c (first x y) u).code in record {
                 part = second x y;
                 root = t;
-                noted = W.noted;
                 registers = omega (arith, also_waiting w k);
                 room = omega (arith, m, B, d.same);
               };
-              second_behind = λ next m. behind_asks W.noted t next (omega (arith, m, B));
-              own_room = λ out₁ out₂ k next last j m z c d. omega (arith, m, z, B, behind_size W.noted t next, (c (first x y) u).code.same, (d (second x y) t).code.same);
+              second_behind = λ next m. behind_asks N t next (omega (arith, m, B));
+              own_room = λ out₁ out₂ k next last j m z c d. omega (arith, m, z, B, behind_size N t next, (c (first x y) u).code.same, (d (second x y) t).code.same);
             }
 
-    pub writes_node : {one two a b kind next k last q after : ℕ} {f : Bool} {out₁ out₂ out₃ : List ℕ} → ChildrenInOrder s n e one two f → a ≡ cond f k q → b ≡ cond f q k
-        → next ≡ behind s one at → last ≡ behind s two next → Writes l one w out at out₁ k → Writes l two (also_in w k) out₁ next out₂ q
+    pub writes_node : {one two a b kind next k last q after : ℕ} {f : Bool} {out₁ out₂ out₃ : List ℕ} → ChildrenInOrder n e one two f → a ≡ cond f k q → b ≡ cond f q k
+        → next ≡ behind n one at → last ≡ behind n two next → Writes l one w out at out₁ k → Writes l two (also_in w k) out₁ next out₂ q
         → ((o : Operator) → get_or l e 0 ≡ sign o → kind ≡ kind_of (operation o)) → Wrote out₂ last out₃ after (kind ∷ a ∷ b ∷ 0 ∷ [])
         → Writes l e w out at out₃ a
     writes_node O α β m z c d K p (leaf g h) v = absurd (omega (arith, part_leaf e v.is, group_most g h))
     writes_node {one} {two} {a} {b} {kind} {next} {k} {last} {q} O α β m z c d K p (node o x y) v =
-        let S = split v W.noted.all (omega (arith, end_inside)) in
+        let S = split v N.all (omega (arith, end_inside)) in
         let C = c (first x y) (node_one S O) in
         let D = d (second x y) (node_two S O) in
         let D' = rw C.result at D in
-        let B : next ≡ at + 4 * size (first x y) = m ∙ behind_size W.noted (node_one S O) at in
-        let B₂ : last ≡ next + 4 * size (second x y) = z ∙ behind_size W.noted (node_two S O) next in
+        let B : next ≡ at + 4 * size (first x y) = m ∙ behind_size N (node_one S O) at in
+        let B₂ : last ≡ next + 4 * size (second x y) = z ∙ behind_size N (node_two S O) next in
         record {
           code = ends_at (omega (arith, p.ends, B, B₂, laws.size_node o x y))
               (wrote_as (wrote_then (wrote_then (ends_at (sym B) C.code) (ends_at (sym B₂) D'.code)) p) (rw (numbers_node w o x y, K o (part_node e v.is), α, β, left_came S O, C.result, D'.result)));
@@ -166,13 +166,12 @@ module _ {l s n : List ℕ} {e : ℕ} {w : List Bool} {out : List ℕ} {at : ℕ
         }
 
 -- ---- the whole code
-pub root_writable : {l s n out : List ℕ} → is_some (tree_of l) ≡ true → Noted l s n → least_buffer ≤ length out → Writable l s n (length l - 1) (waiting_in all_free) out 0
-root_writable {l} h N room =
+pub root_writable : {l out : List ℕ} → is_some (tree_of l) ≡ true → least_buffer ≤ length out → Writable l (length l - 1) (waiting_in all_free) out 0
+root_writable {l} h room =
     let I = the_tree l h in
     record {
       part = I.tree;
       root = root_node I;
-      noted = N;
       registers = rw all_free_lem (omega (arith, need_most I.tree I.most, none_waiting register_count));
       room = omega (arith, I.most);
     }
@@ -184,12 +183,12 @@ module _ {l out out₁ : List ℕ} {register : ℕ} (h : is_some (tree_of l) ≡
   pub show_room : 4 * length l + 4 ≤ length out₁
   show_room = let I = the_tree l h in omega (arith, root_written.code.same, tree_length I, I.most)
 
-  pub code_written : {after : List ℕ} {last : ℕ} → Wrote out₁ (4 * length l) after last (show_kind ∷ register ∷ 0 ∷ 0 ∷ []) → Encodes l out (Done (length l + 1)) after
+  pub code_written : {after : List ℕ} {last : ℕ} → Wrote out₁ (4 * length l) after last (show_kind ∷ register ∷ 0 ∷ 0 ∷ []) → Encodes l out (Ok (length l + 1)) after
   code_written p =
       let I = the_tree l h in
       let C = root_written in
       let z = laws.part_alike older_player (waiting_in all_free) I.tree [] (rw all_free_lem (none_alike register_count)) in
       let e : own_numbers (waiting_in all_free) I.tree ++ (show_kind ∷ register ∷ 0 ∷ 0 ∷ []) ≡ numbers_of (code_on older_player I.tree) =
       rw (C.result, z) (unfold numbers_of in sym (numbers_append (part_code older_player [] I.tree).own _)) in
-      all_written least_buffer (code_on older_player) numbers_of l out room I (omega (arith, tree_length I, older_length I.tree))
+      all_written least_buffer (code_on older_player) numbers_of room I (omega (arith, tree_length I, older_length I.tree))
       (omega (arith, numbers_length (code_on older_player I.tree), older_length I.tree, I.most)) (wrote_as (wrote_then (ends_at (omega (arith, tree_length I)) C.code) p) e)

@@ -9,9 +9,11 @@ ghost use Rattle.tree.specs.InnerWriting.{Wrote};
 ghost use Rattle.player.specs.Limits.{register_count};
 ghost use Rattle.player.specs.Instructions.{load_kind};
 ghost use Rattle.code.specs.Waiting.{lowest, also_in};
-ghost use Rattle.notes.specs.InnerNotes.{NodeAt};
+ghost use Rattle.notes.specs.InnerNotes.{NodeAt, note_at};
 ghost use Rattle.older_coder.specs.Coding.{Encodes};
 ghost use Rattle.older_coder.specs.InnerWriter.{waiting_in, behind, Writable, WrotePart};
+
+use notes::{NO_NOTE, NotedTree};
 
 // Four numbers for each of 8,192 instructions.
 pub const LEAST_BUFFER: usize = 32768;
@@ -24,7 +26,7 @@ fn lowest(free: u32) -> u16
     requires { lowest (waiting_in free) < register_count }
     ensures { result ≡ lowest (waiting_in free) }
 {
-    u32::trailing_zeros(free) as u16
+    free.trailing_zeros() as u16
 }
 
 // Where no operand waits once one waits in register r too.
@@ -36,11 +38,11 @@ fn also_in(free: u32, r: u16) -> u32
 }
 
 // The index behind the code of the node at `end`, where that begins at `at`.
-fn behind(starts: &[u16; tree::MOST_NODES], end: usize, at: usize) -> usize
-    requires { (end < most_nodes) × (get_or starts.now end 0 ≤ end) × (behind starts.now end at < 18446744073709551616) }
-    ensures { result ≡ behind starts.now end at }
+fn behind(noted: &NotedTree<'_>, end: usize, at: usize) -> usize
+    requires { (end < most_nodes) × ((note_at noted.now.notes.now end).start ≤ end) × (behind noted.now.notes.now end at < 18446744073709551616) }
+    ensures { result ≡ behind noted.now.notes.now end at }
 {
-    at + 4 * (end + 1 - (starts[end] as usize))
+    at + 4 * (end + 1 - usize::from(noted.notes[end].start))
 }
 
 // Writes the code of a leaf from index `at` on, while no operand waits where `free` says, and returns its register.
@@ -49,60 +51,45 @@ fn write_leaf(group: u16, free: u32, out: &mut [u16], at: usize) -> u16
     ensures { (result ≡ lowest (waiting_in free)) × Wrote out.old at out.new (at + 4) (load_kind ∷ result ∷ group ∷ 0 ∷ []) }
 {
     let register = lowest(free);
-    notes::put(out, at, player::LOAD, register, group, 0);
+    notes::put(out, at, [player::LOAD, register, group, 0]);
     register
 }
 
 // Writes the code of the node at `end` from index `at` on, while no operand waits where `free` says, and returns the register where its
-// result waits. A leaf that comes second takes no call of its own; one comes first only before another leaf.
-fn write_node(
-    tree: &[u16],
-    starts: &[u16; tree::MOST_NODES],
-    needs: &[u8; tree::MOST_NODES],
-    end: usize,
-    free: u32,
-    out: &mut [u16],
-    at: usize,
-) -> u16
-    requires { Writable tree.now starts.now needs.now end (waiting_in free) out.old at }
-    ensures { (a : Tree) → NodeAt tree.now end a → WrotePart out.old at out.new result (waiting_in free) a }
+// result waits. A leaf that comes second takes no call of its own; one comes first only before another leaf. This is no twin of the other
+// coder's: that one is told the register, and returns where its code ends.
+fn write_node(noted: &NotedTree<'_>, end: usize, free: u32, out: &mut [u16], at: usize) -> u16
+    requires { Writable noted.now.tree.now end (waiting_in free) out.old at }
+    ensures { (a : Tree) → NodeAt noted.now.tree.now end a → WrotePart out.old at out.new result (waiting_in free) a }
 {
-    let x = tree[end];
+    let x = noted.tree[end];
     if x < tree::UNION {
         return write_leaf(x, free, out, at);
     }
-    let c = notes::children_of(starts, needs, end);
-    let one = write_node(tree, starts, needs, c.first, free, out, at);
-    let next = behind(starts, c.first, at);
+    let c = notes::children_of(noted.notes, end);
+    let one = write_node(noted, c.first, free, out, at);
+    let next = behind(noted, c.first, at);
     let rest = also_in(free, one);
-    let second = c.second;
-    let y = tree[second];
+    let y = noted.tree[c.second];
     let two = if y < tree::UNION {
         write_leaf(y, rest, out, next)
     } else {
-        write_node(tree, starts, needs, second, rest, out, next)
+        write_node(noted, c.second, rest, out, next)
     };
-    let last = behind(starts, second, next);
-    let left = notes::pick(c.left, one, two);
-    let right = notes::pick(c.left, two, one);
-    notes::put(out, last, notes::kind_of(x), left, right, 0);
+    let last = behind(noted, c.second, next);
+    let (left, right) = c.left_and_right(one, two);
+    notes::put(out, last, [notes::kind_of(x), left, right, 0]);
     left
 }
 
 // Writes the code of a tree for the older player into `out`, or refuses and writes nothing.
-pub fn encode(tree: &[u16], out: &mut [u16]) -> coder::Coded
+pub fn encode(tree: &[u16], out: &mut [u16]) -> Result<usize, coder::Refusal>
     ensures { Encodes tree.now out.old result out.new }
 {
-    if out.len() < LEAST_BUFFER {
-        return coder::Coded::Refused(coder::SHORT_BUFFER);
-    }
-    if tree::is_tree(tree) {
-        let mut starts = [0u16; tree::MOST_NODES];
-        let mut needs = [0u8; tree::MOST_NODES];
-        notes::note_nodes(tree, &mut starts, &mut needs);
-        let register = write_node(tree, &starts, &needs, tree.len() - 1, ALL_FREE, out, 0);
-        notes::put(out, 4 * tree.len(), older_player::SHOW, register, 0, 0);
-        return coder::Coded::Done(tree.len() + 1);
-    }
-    coder::Coded::Refused(coder::NOT_A_TREE)
+    coder::check(tree, out, LEAST_BUFFER)?;
+    let mut notes = [NO_NOTE; tree::MOST_NODES];
+    let noted = NotedTree::new(tree, &mut notes);
+    let register = write_node(&noted, tree.len() - 1, ALL_FREE, out, 0);
+    notes::put(out, 4 * tree.len(), [older_player::SHOW, register, 0, 0]);
+    Ok(tree.len() + 1)
 }

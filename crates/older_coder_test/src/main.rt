@@ -3,17 +3,15 @@
 // the last shows.
 #![tactic(auto)]
 
-use code_cases::BEFORE;
+use code_cases::{BEFORE, Shape};
 use std::io;
 
 fn show(rt: &impl Print, label: &[u8], tree: &[u16], out: &mut [u16]) -> io::Result<()> {
-    let answer = older_coder::encode(tree, out);
-    code_cases::report(rt, label, answer, out)
+    code_cases::show(rt, older_coder::encode, label, tree, out)
 }
 
-// A case in a buffer of 32,770 numbers.
 fn case(rt: &impl Print, label: &[u8], tree: &[u16]) -> io::Result<()> {
-    show(rt, label, tree, &mut [BEFORE; 32770])
+    code_cases::case(rt, older_coder::encode, label, tree)
 }
 
 // A case, after a line of the numbers that are written.
@@ -55,17 +53,10 @@ fn small(rt: &impl Print) -> io::Result<()> {
     )
 }
 
-// A tree of 8,191 nodes, and so the longest code, in a buffer that it does not fill.
-fn large(rt: &impl Print, label: &[u8], shape: u8) -> io::Result<()> {
-    let mut tree = [0u16; 8191];
-    code_cases::fill(shape, &mut tree);
-    case(rt, label, &tree)
-}
-
 // The longest code in the shortest buffer.
 fn filled(rt: &impl Print) -> io::Result<()> {
     let mut tree = [0u16; 8191];
-    code_cases::fill(code_cases::COMPLETE, &mut tree);
+    code_cases::fill(Shape::Complete, &mut tree);
     show(
         rt,
         b"complete in 32,768 numbers",
@@ -82,29 +73,12 @@ fn buffers(rt: &impl Print) -> io::Result<()> {
     show(rt, b"32,767 numbers and no tree", &[], &mut [BEFORE; 32767])
 }
 
-// 12.
-fn no_trees(rt: &impl Print) -> io::Result<()> {
-    case(rt, b"no entry", &[])?;
-    case(rt, b"an operand missing", &[7, tree::UNION])?;
-    case(rt, b"two trees", &[7, 8])?;
-    case(rt, b"group 0", &[0])?;
-    case(rt, b"group 60001", &[60001])?;
-    case(rt, b"operator 65004", &[7, 8, 65004])
-}
-
-fn too_long(rt: &impl Print) -> io::Result<()> {
-    let mut tree = [0u16; 8193];
-    code_cases::fill(code_cases::CHAIN_TO_THE_LEFT, &mut tree);
-    case(rt, b"a chain of 8,193 nodes", &tree)
-}
-
 fn main(rt: HostRuntime) -> io::Result<()> {
     small(&rt)?;
-    large(&rt, b"complete", code_cases::COMPLETE)?;
-    large(&rt, b"chain to the left", code_cases::CHAIN_TO_THE_LEFT)?;
-    large(&rt, b"chain to the right", code_cases::CHAIN_TO_THE_RIGHT)?;
+    code_cases::large_trees(&rt, older_coder::encode)?;
     filled(&rt)?;
     buffers(&rt)?;
-    no_trees(&rt)?;
-    too_long(&rt)
+    code_cases::no_trees(&rt, older_coder::encode)?;
+    case(&rt, b"operator 65004", &[7, 8, 65004])?;
+    code_cases::too_long(&rt, older_coder::encode)
 }

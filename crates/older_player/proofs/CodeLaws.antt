@@ -12,6 +12,7 @@ use Rattle.common.specs.Exactly.{Exactly}
 use Rattle.common.specs.Fours.{fours}
 use Rattle.player.specs.Limits.{register_count, last_group, outside}
 use Rattle.player.specs.Instructions.{Rig, Registers, empty, run, add, cut, both, load_kind, kind_of, operation_with}
+use Rattle.player.specs.declared.Form.TheVariants.{TwoRegisters}
 use Rattle.player.specs.InnerForms.{wrong_in, instruction_in, NoneWrong, CanRun, shown_by}
 use Rattle.player.proofs.FaultLaws.{or_left, or_right}
 use Rattle.player.specs.Playing.{wrong_length}
@@ -112,7 +113,7 @@ right_exactly code some four = record {
 
 -- ---- carried out as by 01's player
 -- the instructions before SHOW can be
-others_right : (is : List Instruction) → AllWellFormed is → NoneWrong (fours (wrong_in 1) (numbers_of is))
+others_right : (is : List Instruction) → AllWellFormed is → NoneWrong (fours (wrong_in TwoRegisters) (numbers_of is))
 unfolding AllWellFormed numbers_of fours NoneWrong
 others_right [] h = tt
 others_right (load target group ∷ is) h = (rw (lt-leb register_count target h.0.0, le-ltb group 1 h.0.1, le-ltb last_group group h.0.2), others_right is h.1)
@@ -121,7 +122,7 @@ others_right (show register ∷ is) h = absurd h.0
 
 -- and leave the answer in the register that SHOW names
 others_run : (G : Rig) (is : List Instruction) (register : ℕ) → AllWellFormed is → (R : Registers)
-    → run G (fours (instruction_in 1) (numbers_of is)) R register ≡ lights G (is ++ (show register ∷ [])) R
+    → run G (fours (instruction_in TwoRegisters) (numbers_of is)) R register ≡ lights G (is ++ (show register ∷ [])) R
 unfolding AllWellFormed numbers_of fours run lights
 others_run G [] register h R = refl
 others_run G (load target group ∷ is) register h R = others_run G is register h.1 _
@@ -138,8 +139,8 @@ module _ (code : List ℕ) (C : IsCode code) where
   before_show = omega (arith, ap (length {A = ℕ}) whole, length-append (numbers_of C.others) (show_kind ∷ C.register ∷ 0 ∷ 0 ∷ []))
 
   pub record Carried (before : List ℕ) (shown : ℕ) : Type 0 where
-    pub can : CanRun 1 before shown
-    pub lit : (G : Rig) → shown_by 1 before shown G ≡ lit_lamps G (instructions code)
+    pub can : CanRun TwoRegisters before shown
+    pub lit : (G : Rig) → shown_by TwoRegisters before shown G ≡ lit_lamps G (instructions code)
 
   pub carried : Carried (take (length code - 4) code) (get_or code (length code - 4 + 1) 0)
   carried =
@@ -149,7 +150,7 @@ module _ (code : List ℕ) (C : IsCode code) where
       ap (λ (l : List ℕ). get_or l (length code - 4 + 1) 0) (whole ∙ sym (append_assoc others (show_kind ∷ []) (C.register ∷ 0 ∷ 0 ∷ [])))
       ∙ get_or_at (others ++ (show_kind ∷ [])) C.register (0 ∷ 0 ∷ []) 0 (length code - 4 + 1) (length-append others (show_kind ∷ []) ∙ omega (arith, before_show)) in
       rw (front, shown) (record {
-        can = record { low = omega arith; high = omega arith; right = others_right C.others C.well_formed; inside = C.low };
+        can = record { right = others_right C.others C.well_formed; inside = C.low };
         lit = λ G. others_run G C.others C.register C.well_formed empty ∙ ap (lit_lamps G) (sym (ap (fours instruction) C.numbered ∙ instructions_numbers (C.others ++ (show C.register ∷ []))));
       })
 

@@ -2,7 +2,7 @@
 use mathlib.Core.Path.{◌≡◌, refl, ◌∙◌}
 use mathlib.Core.Bool.{Bool, true, false, not, cond, ◌||◌}
 use mathlib.Core.List.{List, [], ◌∷◌, ◌++◌}
-use Prim.Native.Nat.{ℕ, ◌+◌, ◌-◌, ◌≤◌, ◌<◌}
+use Prim.Native.Nat.{ℕ, ◌+◌, ◌-◌, ◌*◌, ◌/◌, ◌≤◌, ◌<◌}
 use native.Mathlib.Omega.{arith}
 use borrow.Author.Tests.{ne_eqb, leb-false, lt-leb, le-ltb}
 use lib.Dec.{eqb, leb}
@@ -13,25 +13,40 @@ use Rattle.player.specs.Instructions.{add, both, load_kind, kind_of}
 use Rattle.player.specs.Playing.{wrong_length, fault_by}
 use Rattle.player.proofs.FaultLaws.{or_left, or_right}
 use Rattle.player.proofs.InstructionLaws.{kind_not_load, kind_inside}
+use Rattle.player.proofs.ListLaws.{of_four, chunks_of, number_in}
 use Rattle.player.proofs.PlayingLaws.{length_right}
 use Rattle.older_player.specs.Instructions.{Instruction, load, change, show, show_kind, numbers_of}
 use Rattle.older_player.specs.Playing.{most_instructions, wrong_instruction, misplaced, wrong_code, play_fault}
 use Rattle.older_player.specs.Codes.{AllWellFormed}
 use Rattle.older_player.proofs.InstructionLaws.{kind_not_show, numbers_length}
 
-module _ (l : List ℕ) (i k : ℕ) (e : i + 4 ≡ k) (h : k ≤ length l) where
-  abbrev wrong_here : Bool
-  wrong_here = wrong_instruction (get_or l i 0) (get_or l (i + 1) 0) (get_or l (i + 2) 0) (get_or l (i + 3) 0) || misplaced (get_or l i 0) (length l - k)
+or_true : (b : Bool) → (b || true) ≡ true
+or_true true = refl
+or_true false = refl
 
-  code_more : wrong_code (drop i l) ≡ (wrong_here || wrong_code (drop k l))
+module _ (l : List ℕ) (i : ℕ) (h : i < length l / 4) where
+  abbrev pub here : List ℕ
+  here = get_or (chunks_of 4 l) i []
+
+  abbrev behind : ℕ
+  behind = length l - 4 * (i + 1)
+
+  code_more : wrong_code (drop (4 * i) l) ≡ ((of_four wrong_instruction here || misplaced (get_or here 0 0) behind) || wrong_code (drop (4 * (i + 1)) l))
   unfolding wrong_code
-  code_more = rw (four_at l i k e h, length-drop)
+  code_more =
+      let number = number_in 4 l i in
+      let first : 4 * i + 0 ≡ 4 * i = omega arith in
+      rw (number 0 h (omega arith), number 1 h (omega arith), number 2 h (omega arith), number 3 h (omega arith), first)
+      (rw (four_at l (4 * i) (4 * (i + 1)) (omega arith) (omega arith), length-drop))
 
-  pub code_hit : wrong_here ≡ true → wrong_code (drop i l) ≡ true
+  pub code_hit : of_four wrong_instruction here ≡ true → wrong_code (drop (4 * i) l) ≡ true
   code_hit s = code_more ∙ rw s
 
-  pub code_miss : wrong_here ≡ false → wrong_code (drop i l) ≡ wrong_code (drop k l)
-  code_miss s = code_more ∙ rw s
+  pub code_hit_place : misplaced (get_or here 0 0) behind ≡ true → wrong_code (drop (4 * i) l) ≡ true
+  code_hit_place s = code_more ∙ rw (s, or_true (of_four wrong_instruction here))
+
+  pub code_miss : of_four wrong_instruction here ≡ false → misplaced (get_or here 0 0) behind ≡ false → wrong_code (drop (4 * i) l) ≡ wrong_code (drop (4 * (i + 1)) l)
+  code_miss s u = code_more ∙ rw (s, u)
 
 pub code_end : (l : List ℕ) → length l < 4 → wrong_code l ≡ false
 unfolding wrong_code

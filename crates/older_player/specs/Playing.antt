@@ -3,8 +3,7 @@ use Rattle.std.specs.Prelude.{Bool, false, not, cond, ◌||◌, List, [], ◌∷
 use Rattle.player.specs.Limits.{register_count, last_group, outside}
 use Rattle.player.specs.Instructions.{add, both, load_kind, kind_of}
 use Rattle.player.specs.Patches.{rig}
-use Rattle.player.specs.Playing.{wrong_length, fault_by, PlaysBy}
-use Rattle.player.specs.declared.Played.{Played}
+use Rattle.player.specs.Playing.{wrong_length, fault_by, Played, PlaysBy}
 use Rattle.older_player.specs.Instructions.{lit_lamps, show_kind, instructions}
 
 -- "With it, code is up to 8,192 instructions .. and 20 and 22 follow that"

@@ -28,15 +28,8 @@ fn case(rt: &impl Print, label: &[u8], code: &[u16], patch: &[u16]) -> io::Resul
 }
 
 // One instruction, when register 0 holds lamps 1 2, register 12 lamps 2 3 and the others none, and then SHOW of a register.
-fn instruction(
-    rt: &impl Print,
-    label: &[u8],
-    kind: u16,
-    a: u16,
-    b: u16,
-    c: u16,
-    shown: u16,
-) -> io::Result<()> {
+fn instruction(rt: &impl Print, label: &[u8], instruction: [u16; 4], shown: u16) -> io::Result<()> {
+    let [kind, a, b, c] = instruction;
     case(
         rt,
         label,
@@ -58,7 +51,7 @@ fn named(
     shown: u16,
 ) -> io::Result<()> {
     rt.write_all(name)?;
-    instruction(rt, label, kind, a, b, 0, shown)
+    instruction(rt, label, [kind, a, b, 0], shown)
 }
 
 // An operation changes the first register that it names and no other, and takes registers to 12.
@@ -75,48 +68,48 @@ fn operation(rt: &impl Print, name: &[u8], kind: u16) -> io::Result<()> {
 
 // Fault 23 of unused numbers, kinds, LOAD's register and groups.
 fn numbers(rt: &impl Print) -> io::Result<()> {
-    instruction(rt, b"LOAD 0 7 1", LOAD, 0, 7, 1, 0)?;
-    instruction(rt, b"ADD 0 12 1", ADD, 0, 12, 1, 0)?;
-    instruction(rt, b"CUT 0 12 1", CUT, 0, 12, 1, 0)?;
-    instruction(rt, b"BOTH 0 12 1", BOTH, 0, 12, 1, 0)?;
-    instruction(rt, b"kind 0", 0, 0, 12, 0, 0)?;
-    instruction(rt, b"kind 6", 6, 0, 12, 0, 0)?;
-    instruction(rt, b"LOAD 12 7, shown 12", LOAD, 12, 7, 0, 12)?;
-    instruction(rt, b"LOAD 13 7", LOAD, 13, 7, 0, 0)?;
-    instruction(rt, b"group 0", LOAD, 0, 0, 0, 0)?;
-    instruction(rt, b"group 60000", LOAD, 0, 60000, 0, 0)?;
-    instruction(rt, b"group 60001", LOAD, 0, 60001, 0, 0)
+    instruction(rt, b"LOAD 0 7 1", [LOAD, 0, 7, 1], 0)?;
+    instruction(rt, b"ADD 0 12 1", [ADD, 0, 12, 1], 0)?;
+    instruction(rt, b"CUT 0 12 1", [CUT, 0, 12, 1], 0)?;
+    instruction(rt, b"BOTH 0 12 1", [BOTH, 0, 12, 1], 0)?;
+    instruction(rt, b"kind 0", [0, 0, 12, 0], 0)?;
+    instruction(rt, b"kind 6", [6, 0, 12, 0], 0)?;
+    instruction(rt, b"LOAD 12 7, shown 12", [LOAD, 12, 7, 0], 12)?;
+    instruction(rt, b"LOAD 13 7", [LOAD, 13, 7, 0], 0)?;
+    instruction(rt, b"group 0", [LOAD, 0, 0, 0], 0)?;
+    instruction(rt, b"group 60000", [LOAD, 0, 60000, 0], 0)?;
+    instruction(rt, b"group 60001", [LOAD, 0, 60001, 0], 0)
 }
 
 // SHOW with these numbers, when register 0 holds lamp 1.
-fn shown(rt: &impl Print, label: &[u8], a: u16, b: u16, c: u16) -> io::Result<()> {
+fn shown(rt: &impl Print, label: &[u8], [a, b, c]: [u16; 3]) -> io::Result<()> {
     case(rt, label, &[LOAD, 0, 7, 0, SHOW, a, b, c], &[7, 1])
 }
 
 fn shows(rt: &impl Print) -> io::Result<()> {
-    shown(rt, b"SHOW 0", 0, 0, 0)?;
-    shown(rt, b"SHOW 12, never written", 12, 0, 0)?;
-    shown(rt, b"SHOW 13", 13, 0, 0)?;
-    shown(rt, b"SHOW 0 1 0", 0, 1, 0)?;
-    shown(rt, b"SHOW 0 0 1", 0, 0, 1)
+    shown(rt, b"SHOW 0", [0, 0, 0])?;
+    shown(rt, b"SHOW 12, never written", [12, 0, 0])?;
+    shown(rt, b"SHOW 13", [13, 0, 0])?;
+    shown(rt, b"SHOW 0 1 0", [0, 1, 0])?;
+    shown(rt, b"SHOW 0 0 1", [0, 0, 1])
 }
 
 // Three instructions of these kinds, whose other numbers are 0.
-fn kinds(rt: &impl Print, label: &[u8], a: u16, b: u16, c: u16) -> io::Result<()> {
+fn kinds(rt: &impl Print, label: &[u8], [a, b, c]: [u16; 3]) -> io::Result<()> {
     case(rt, label, &[a, 0, 0, 0, b, 0, 0, 0, c, 0, 0, 0], &[7, 1])
 }
 
 // "SHOW, kind 5, stands last and there only, else 23".
 fn places(rt: &impl Print) -> io::Result<()> {
     case(rt, b"SHOW alone", &[SHOW, 0, 0, 0], &[7, 1])?;
-    kinds(rt, b"SHOW last", ADD, ADD, SHOW)?;
-    kinds(rt, b"SHOW missing", ADD, ADD, ADD)?;
-    kinds(rt, b"SHOW first", SHOW, ADD, ADD)?;
-    kinds(rt, b"SHOW first and last", SHOW, ADD, SHOW)?;
-    kinds(rt, b"SHOW in the middle", ADD, SHOW, ADD)?;
-    kinds(rt, b"SHOW twice at the end", ADD, SHOW, SHOW)?;
-    kinds(rt, b"kind 0 last", ADD, ADD, 0)?;
-    kinds(rt, b"kind 6 last", ADD, ADD, 6)
+    kinds(rt, b"SHOW last", [ADD, ADD, SHOW])?;
+    kinds(rt, b"SHOW missing", [ADD, ADD, ADD])?;
+    kinds(rt, b"SHOW first", [SHOW, ADD, ADD])?;
+    kinds(rt, b"SHOW first and last", [SHOW, ADD, SHOW])?;
+    kinds(rt, b"SHOW in the middle", [ADD, SHOW, ADD])?;
+    kinds(rt, b"SHOW twice at the end", [ADD, SHOW, SHOW])?;
+    kinds(rt, b"kind 0 last", [ADD, ADD, 0])?;
+    kinds(rt, b"kind 6 last", [ADD, ADD, 6])
 }
 
 // Faults 21 and 22. The longest code here also has fault 23, which comes later.
@@ -133,14 +126,15 @@ fn lengths(rt: &impl Print) -> io::Result<()> {
 
 // 8,191 times LOAD, and SHOW. The last LOAD has group 8: its lamp tells that all were carried out.
 fn most_instructions(rt: &impl Print) -> io::Result<()> {
-    let mut code = [0u16; 32768];
-    for i in 0..8191 {
-        code[4 * i] = LOAD;
-        code[4 * i + 2] = 7;
-    }
-    code[32762] = 8;
-    code[32764] = SHOW;
-    case(rt, b"8,192 instructions", &code, &[7, 1, 8, 2])
+    let mut code = [[LOAD, 0, 7, 0]; 8192];
+    code[8190] = [LOAD, 0, 8, 0];
+    code[8191] = [SHOW, 0, 0, 0];
+    case(
+        rt,
+        b"8,192 instructions",
+        code.as_flattened(),
+        &[7, 1, 8, 2],
+    )
 }
 
 // A patch, when group 7 is shown.

@@ -1,20 +1,25 @@
 -- Sets of lamps as bits of a number: an operation on the bits of two numbers is the operation on the two sets.
 use mathlib.Core.Path.{◌≡◌, refl, sym, ap, ap₂, ◌∙◌}
 use mathlib.Core.Bool.{Bool, true, false, not, ◌&&◌, ◌||◌}
-use mathlib.Core.List.{List, [], ◌∷◌, ◌++◌}
+use mathlib.Core.List.{List, ◌++◌, append_assoc}
 use Prim.Native.Nat.{ℕ, zero, suc, ◌+◌, ◌-◌, ◌*◌, ◌/◌, ◌%◌, ◌^◌, ◌≤◌, ◌<◌, min, max}
-use native.Mathlib.Nat.{pow-suc}
+use native.Mathlib.Nat.{pow-suc, div-one, add-zero, zero-add, suc-add}
 use native.Mathlib.Omega.{arith}
 use borrow.Author.Tests.{eq-eqb, ne_eqb}
 use lib.Dec.{eqb}
 use lib.Pow.{pow_pos}
 use lib.Arith.{digits_div, digits_mod}
 use lib.Bits.{bit_or, bit_and, or_step, and_step, or_zero_l, and_zero_l}
-use lib.ListN.{length, get_or, set, take}
+use lib.ListN.{length, drop}
+use borrow.Rule.Slice.PartMut.{put_mid}
+use mir.Syntax.{w64}
+use Rattle.std.specs.Int.{byte_at, bytes_low_first, to_le_bytes}
+use lib.Seq.{take_at, drop_at}
+use Rattle.std.proofs.lemmas.List.{drop-drop}
+use Rattle.std.proofs.lemmas.Nat.{pow-add}
 use Rattle.player.specs.Instructions.{Lamps, add, cut, both, combined}
 use Rattle.player.specs.Bytes.{bit, pack, bytes_from}
-use Rattle.player.proofs.ByteLaws.{bit_small, pack_small, pack_part}
-use Rattle.player.specs.InnerWords.{HoldsSet}
+use Rattle.player.proofs.ByteLaws.{bit_small, pack_small, pack_part, bytes_from_length}
 
 module _ (op digit : ℕ → ℕ → ℕ) (on : Bool → Bool → Bool)
     (step : (a b : ℕ) → op a b ≡ op (a / 2) (b / 2) * 2 + digit (a % 2) (b % 2))
@@ -89,28 +94,48 @@ pack_one lamp first (suc count) zero e h =
 pack_one lamp first (suc count) (suc i) e h =
     rw (ne_eqb lamp first (λ x. omega arith), pack_one lamp (suc first) count i (omega arith) (omega arith), pow-suc 2 i) (omega arith)
 
--- ---- the answer's bytes, written from the last to the first
+-- ---- the answer's bytes, written word by word
+pow_256 : (i : ℕ) → 256 ^ i ≡ 2 ^ (8 * i)
+pow_256 zero = refl
+pow_256 (suc i) =
+    let next : 8 * suc i ≡ 8 * i + 8 = omega arith in
+    rw (pow-suc 256 i, pow_256 i, next, pow-add 2 (8 * i) 8)
 
-module _ (f : Lamps) (words : List ℕ) (held : HoldsSet words f) where
-  byte_of_word : (i : ℕ) → i < 64 → get_or words (i / 8) 0 / 2 ^ (8 * (i % 8)) % 256 ≡ pack f (8 * i + 1) 8
-  byte_of_word i h =
-      let m : ℕ = 8 * (i % 8) in
-      let first : ℕ = 64 * (i / 8) + 1 in
+module _ (f : Lamps) (first : ℕ) where
+  byte_of_word : (i : ℕ) → i < 8 → byte_at i (pack f first 64) ≡ pack f (first + 8 * i) 8
+  byte_of_word zero h = ap (λ (n : ℕ). n % 256) (sym (div-one (pack f first 64))) ∙ pack_part f first 0 8 56
+  byte_of_word (suc i) h =
+      let m : ℕ = 8 * suc i in
       let width : 64 ≡ m + (8 + (56 - m)) = omega arith in
-      let here : first + m ≡ 8 * i + 1 = omega arith in
-      rw (held.entry (i / 8) (omega arith))
-      (ap (λ (n : ℕ). pack f first n / 2 ^ m % 256) width ∙ pack_part f first m 8 (56 - m) ∙ ap (λ (n : ℕ). pack f n 8) here)
+      rw (pow_256 (suc i)) (ap (λ (n : ℕ). pack f first n / 2 ^ m % 256) width ∙ pack_part f first m 8 (56 - m))
 
-  set_last : (l t : List ℕ) (i v : ℕ) → i < length l → set (take (suc i) l ++ t) i v ≡ take i l ++ v ∷ t
-  set_last [] t i v h = absurd (omega arith)
-  set_last (x ∷ l) t zero v h = refl
-  set_last (x ∷ l) t (suc i) v h = ap (λ (y : List ℕ). x ∷ y) (set_last l t i v (omega arith))
-
-  pub byte_written : (old behind : List ℕ) (i j : ℕ) → suc i ≡ j → j ≤ 64 → 64 ≤ length old
-      → set (take j old ++ (bytes_from f (8 * j + 1) (64 - j) ++ behind)) i (get_or words (i / 8) 0 / 2 ^ (8 * (i % 8)) % 256)
-      ≡ take i old ++ (bytes_from f (8 * i + 1) (64 - i) ++ behind)
+  -- the bytes of a word, the lowest first
+  bytes_of_word : (i count : ℕ) → i + count ≤ 8 → bytes_low_first i count (pack f first 64) ≡ bytes_from f (first + 8 * i) count
   unfolding bytes_from
-  byte_written old behind i j e h k =
-      let n : 64 - i ≡ suc (64 - j) = omega arith in
-      let s : 8 * i + 1 + 8 ≡ 8 * j + 1 = omega arith in
-      rw (byte_of_word i (omega arith), ← e) (set_last old _ i _ (omega arith) ∙ rw (n, s, e))
+  bytes_of_word i zero h = refl
+  bytes_of_word i (suc count) h =
+      let next : first + 8 * suc i ≡ first + 8 * i + 8 = omega arith in
+      rw (byte_of_word i (omega arith), bytes_of_word (suc i) count (omega arith), next)
+
+bytes_more : (f : Lamps) (first m n : ℕ) → bytes_from f first (m + n) ≡ bytes_from f first m ++ bytes_from f (first + 8 * m) n
+unfolding bytes_from
+bytes_more f first zero n = rw (zero-add n, add-zero first)
+bytes_more f first (suc m) n =
+    let next : first + 8 + 8 * m ≡ first + 8 * suc m = omega arith in
+    rw (suc-add m n, bytes_more f (first + 8) m n, next)
+
+pub word_bytes : (f : Lamps) (first : ℕ) → to_le_bytes w64 (pack f first 64) ≡ bytes_from f first 8
+word_bytes f first =
+    let start : first + 8 * 0 ≡ first = omega arith in
+    bytes_of_word f first 0 8 (omega arith) ∙ ap (λ (n : ℕ). bytes_from f n 8) start
+
+pub word_written : (f : Lamps) (old lamps word : List ℕ) (i count : ℕ) → 64 ≤ length old → i < 8 → count ≡ 8
+    → lamps ≡ bytes_from f 1 (8 * i) ++ drop (8 * i) old → word ≡ bytes_from f (64 * i + 1) 8
+    → put_mid (8 * i) count lamps word ≡ bytes_from f 1 (8 * (i + 1)) ++ drop (8 * (i + 1)) old
+word_written f old lamps word i count h lt eight before e =
+    let at : ℕ = 8 * i in
+    let written : length (bytes_from f 1 at) ≡ at = bytes_from_length f 1 at in
+    let next : 8 * (i + 1) ≡ at + 8 = omega arith in
+    let first : 1 + 8 * at ≡ 64 * i + 1 = omega arith in
+    rw (before, eight, e, take_at (bytes_from f 1 at) (drop at old) at written, drop_at (bytes_from f 1 at) (drop at old) at written, drop-drop 8 at old, next, bytes_more f 1 at 8, first)
+    (sym (append_assoc (bytes_from f 1 at) (bytes_from f (64 * i + 1) 8) (drop (at + 8) old)))

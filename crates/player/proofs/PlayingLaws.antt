@@ -1,21 +1,21 @@
 -- Laws of a call of the player, for the crates above: which faults the code of well-formed instructions can have, and what a call
 -- without a fault answers and leaves.
 use mathlib.Core.Path.{◌≡◌, refl, ◌∙◌}
-use mathlib.Core.Bool.{Bool, true, false, not, true≢false}
+use mathlib.Core.Bool.{Bool, true, false, not, cond, true≢false}
 use mathlib.Core.List.{List, [], ◌∷◌, ◌++◌}
 use Prim.Native.Nat.{ℕ, ◌-◌, ◌*◌, ◌/◌, ◌%◌, ◌^◌, ◌≤◌, ◌<◌}
 use native.Mathlib.Omega.{arith}
 use borrow.Author.Tests.{eq-eqb, ne_eqb, le-ltb, lt-leb, ltb-false, eqb-true, eqb-false}
 use lib.Dec.{eqb, ltb}
 use lib.ListN.{length, get_or, drop, get_or-append}
+use Rattle.std.specs.Prelude.{Ok, Err}
 use Rattle.common.specs.Answer.{done}
 use Rattle.player.specs.Limits.{register_count, last_group, last_lamp, byte_count, most_instructions}
 use Rattle.player.specs.Instructions.{Lamps, Instruction, load, operate, lit_lamps, numbers_of, instructions}
 use Rattle.player.specs.Patches.{rig}
 use Rattle.player.specs.Bytes.{bit, bytes}
-use Rattle.player.specs.Playing.{wrong_length, wrong_code, wrong_pair_count, wrong_patch, fault_by, play_fault, bytes_by, played_says, PlaysBy}
-use Rattle.player.specs.declared.Played.{Played}
-use Rattle.player.specs.declared.Played.TheVariants.{Done, Refused}
+use Rattle.player.specs.Playing.{wrong_length, wrong_code, wrong_pair_count, wrong_patch, patch_fault, fault_by, play_fault, bytes_by, Played, played_says, PlaysBy}
+use Rattle.player.specs.InnerChecks.{lengths_fault}
 use Rattle.player.proofs.InstructionLaws.{AllWellFormed, kind_not_load, kind_inside, numbers_length}
 use Rattle.player.proofs.FaultLaws.{or_left, or_right}
 use Rattle.player.proofs.ByteLaws.{bytes_length, byte_bit}
@@ -55,46 +55,40 @@ module _ (is : List Instruction) (some : 1 ≤ length is) (few : length is ≤ m
   numbers_fault patch lamps h = rw (numbers_no_22, numbers_no_23 is h)
 
 -- ---- a call without a fault
-only_done : (r : Played) → played_says r ≡ done [] → r ≡ Done
-only_done Done e = refl
-only_done (Refused n) e = let z : ◌≡◌ {A = ℕ} 0 1 = cc in absurd (omega arith)
+only_done : (r : Played) → played_says r ≡ done [] → r ≡ Ok tt
+only_done (Ok ok) e = refl
+only_done (Err refusal) e = cc
 
 -- It is done.
-pub plays_done : {fault : ℕ} {lit : Lamps} {lamps : List ℕ} {r : Played} {after : List ℕ} → PlaysBy fault lit lamps r after → fault ≡ 0 → r ≡ Done
+pub plays_done : {fault : ℕ} {lit : Lamps} {lamps : List ℕ} {r : Played} {after : List ℕ} → PlaysBy fault lit lamps r after → fault ≡ 0 → r ≡ Ok tt
 plays_done {fault} {lit} {lamps} {r} P none = only_done r (P.says ∙ rw (eq-eqb fault 0 none))
 
 -- ---- what a call answers
-pub refused : (fault : ℕ) (lit : Lamps) (lamps : List ℕ) (number : ℕ) → number ≡ fault → (number ≡ 0 → ⊥) → PlaysBy fault lit lamps (Refused number) lamps
-refused fault lit lamps number e n =
-    let z : eqb fault 0 ≡ false = rw e at (ne_eqb number 0 n) in
-    record { says = rw (z, e); written = rw z }
-
-pub played : (fault : ℕ) (lit : Lamps) (lamps after : List ℕ) → fault ≡ 0 → after ≡ bytes lit ++ drop byte_count lamps → PlaysBy fault lit lamps Done after
+pub played : (fault : ℕ) (lit : Lamps) (lamps after : List ℕ) → fault ≡ 0 → after ≡ bytes lit ++ drop byte_count lamps → PlaysBy fault lit lamps (Ok tt) after
 played fault lit lamps after e h =
     let z : eqb fault 0 ≡ true = eq-eqb fault 0 e in
     record { says = rw z; written = rw z h }
 
--- no fault: the bytes suffice, code and patch are right
-pub record Faultless (has22 has23 : Bool) (patch lamps : List ℕ) : Type 0 where
-  pub long : byte_count ≤ length lamps
-  pub length_right : has22 ≡ false
-  pub code_right : has23 ≡ false
-  pub count_right : wrong_pair_count (length patch) ≡ false
-  pub patch_right : wrong_patch patch ≡ false
-
-pub faultless : (has22 has23 : Bool) (patch lamps : List ℕ) → fault_by has22 has23 patch lamps ≡ 0 → Faultless has22 has23 patch lamps
-faultless b c patch lamps = go (ltb (length lamps) byte_count) refl b c (wrong_pair_count (length patch)) refl (wrong_patch patch) refl
+-- ---- what the checks without a fault say
+pub lengths_right : (has22 : Bool) (bytes : ℕ) → 0 ≡ lengths_fault has22 bytes → (byte_count ≤ bytes) × (has22 ≡ false)
+lengths_right has22 bytes = go (ltb bytes byte_count) refl has22
   where
-    go : (a : Bool) → ltb (length lamps) byte_count ≡ a → (b c d : Bool) → wrong_pair_count (length patch) ≡ d → (e : Bool) → wrong_patch patch ≡ e
-        → fault_by b c patch lamps ≡ 0 → Faultless b c patch lamps
-    go true p b c d q e r h = let z = simp (p, q, r) at h in absurd (omega arith)
-    go false p true c d q e r h = let z = simp (p, q, r) at h in absurd (omega arith)
-    go false p false true true q e r h = let z = simp (p, q, r) at h in absurd (omega arith)
-    go false p false true false q true r h = let z = simp (p, q, r) at h in absurd (omega arith)
-    go false p false true false q false r h = let z = simp (p, q, r) at h in absurd (omega arith)
-    go false p false false true q e r h = let z = simp (p, q, r) at h in absurd (omega arith)
-    go false p false false false q true r h = let z = simp (p, q, r) at h in absurd (omega arith)
-    go false p false false false q false r h = record { long = ltb-false (length lamps) byte_count p; length_right = refl; code_right = refl; count_right = q; patch_right = r }
+    go : (a : Bool) → ltb bytes byte_count ≡ a → (b : Bool) → ◌≡◌ {A = ℕ} 0 (cond a 21 (cond b 22 0)) → (byte_count ≤ bytes) × (b ≡ false)
+    go true e b h = absurd (omega arith)
+    go false e true h = absurd (omega arith)
+    go false e false h = (ltb-false bytes byte_count e, refl)
+
+pub check_right : (patch : List ℕ) → 0 ≡ patch_fault patch → (wrong_pair_count (length patch) ≡ false) × (wrong_patch patch ≡ false)
+check_right patch = go (wrong_pair_count (length patch)) (wrong_patch patch)
+  where
+    go : (a b : Bool) → ◌≡◌ {A = ℕ} 0 (cond a 24 (cond b 25 0)) → (a ≡ false) × (b ≡ false)
+    go true b h = absurd (omega arith)
+    go false true h = absurd (omega arith)
+    go false false h = (refl, refl)
+
+pub no_fault : (has22 has23 : Bool) (patch lamps : List ℕ) → byte_count ≤ length lamps → has22 ≡ false → has23 ≡ false → 0 ≡ patch_fault patch
+    → fault_by has22 has23 patch lamps ≡ 0
+no_fault has22 has23 patch lamps long h w right = rw (le-ltb (length lamps) byte_count long, h, w, ← right)
 
 -- Each lamp's bit says whether the answer holds the lamp.
 pub lamp_bit : (code patch lamps : List ℕ) → play_fault code patch lamps ≡ 0 → (n : ℕ) → 1 ≤ n → n ≤ last_lamp

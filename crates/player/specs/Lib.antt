@@ -5,3 +5,4 @@ pub mod Bytes
 pub mod Playing
 pub mod InnerWords
 pub mod InnerForms
+pub mod InnerChecks

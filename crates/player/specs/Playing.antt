@@ -1,12 +1,12 @@
 -- The faults, and what a call of `play` answers and leaves. 01, "The player".
-use Rattle.std.specs.Prelude.{◌≡◌, Bool, false, not, cond, ◌||◌, List, [], ◌∷◌, ◌++◌, ℕ, ◌*◌, ◌/◌, ◌%◌, eqb, leb, ltb, length, drop}
+use Rattle.std.specs.Prelude.{◌≡◌, Bool, false, not, cond, ◌||◌, List, [], ◌∷◌, ◌++◌, ℕ, ◌*◌, ◌/◌, ◌%◌, eqb, leb, ltb, length, drop, Result, Ok, Err}
 use Rattle.common.specs.Answer.{Answer, done, refused_with, answer_by}
 use Rattle.player.specs.Limits.{register_count, last_group, last_lamp, byte_count, most_instructions, most_pairs, outside}
 use Rattle.player.specs.Instructions.{Lamps, lit_lamps, add, both, load_kind, kind_of, instructions}
 use Rattle.player.specs.Patches.{rig}
 use Rattle.player.specs.Bytes.{bytes}
-use Rattle.player.specs.declared.Played.{Played}
-use Rattle.player.specs.declared.Played.TheVariants.{Done, Refused}
+use Rattle.player.specs.declared.Refusal.{Refusal}
+use Rattle.player.specs.declared.Refusal.TheVariants.{ShortBuffer, WrongLength, WrongInstruction, WrongPairCount, WrongPair}
 
 -- 22: "code of 0 or over .. instructions, or of a length that four doesn't divide"; the most is a device's own
 abbrev pub wrong_length : (most n : ℕ) → Bool
@@ -63,10 +63,22 @@ play_fault code patch lamps = fault_by (wrong_length most_instructions (length c
 abbrev pub bytes_by : ℕ → Lamps → (lamps : List ℕ) → List ℕ
 bytes_by fault lit lamps = cond (eqb fault 0) (bytes lit ++ drop byte_count lamps) lamps
 
+-- 01's numbers
+abbrev pub refusal_number : Refusal → ℕ
+refusal_number ShortBuffer = 21
+refusal_number WrongLength = 22
+refusal_number WrongInstruction = 23
+refusal_number WrongPairCount = 24
+refusal_number WrongPair = 25
+
+-- what a call of `play` answers
+abbrev pub Played : Type 0
+Played = Result (Unit {0}) Refusal
+
 -- 01's number for each answer; there are no values
 abbrev pub played_says : Played → Answer
-played_says Done = done []
-played_says (Refused n) = refused_with n
+played_says (Ok ok) = done []
+played_says (Err refusal) = refused_with (refusal_number refusal)
 
 -- What a call answers, and what the bytes are afterwards, by the first fault and the lamps lit.
 pub record PlaysBy (fault : ℕ) (lit : Lamps) (lamps : List ℕ) (r : Played) (after : List ℕ) : Type 0 where

@@ -23,15 +23,8 @@ fn case(rt: &impl Print, label: &[u8], code: &[u16], patch: &[u16]) -> io::Resul
 }
 
 // One instruction, with lamp 1 in group 7.
-fn instruction(
-    rt: &impl Print,
-    label: &[u8],
-    kind: u16,
-    target: u16,
-    s: u16,
-    t: u16,
-) -> io::Result<()> {
-    case(rt, label, &[kind, target, s, t], &[7, 1])
+fn instruction(rt: &impl Print, label: &[u8], instruction: [u16; 4]) -> io::Result<()> {
+    case(rt, label, &instruction, &[7, 1])
 }
 
 // One pair, after lamp 1 in group 7, which is loaded.
@@ -72,22 +65,22 @@ fn most_instructions(rt: &impl Print) -> io::Result<()> {
 
 // Fault 23.
 fn registers(rt: &impl Print) -> io::Result<()> {
-    instruction(rt, b"kind 0", 0, 0, 1, 2)?;
-    instruction(rt, b"kind 5", 5, 0, 1, 2)?;
-    instruction(rt, b"target 13", LOAD, 13, 7, 0)?;
-    instruction(rt, b"first operand 13", ADD, 0, 13, 0)?;
-    instruction(rt, b"second operand 13", CUT, 0, 0, 13)?;
-    instruction(rt, b"second operand 13 of BOTH", BOTH, 0, 0, 13)?;
-    instruction(rt, b"registers 12", CUT, 12, 12, 12)
+    instruction(rt, b"kind 0", [0, 0, 1, 2])?;
+    instruction(rt, b"kind 5", [5, 0, 1, 2])?;
+    instruction(rt, b"target 13", [LOAD, 13, 7, 0])?;
+    instruction(rt, b"first operand 13", [ADD, 0, 13, 0])?;
+    instruction(rt, b"second operand 13", [CUT, 0, 0, 13])?;
+    instruction(rt, b"second operand 13 of BOTH", [BOTH, 0, 0, 13])?;
+    instruction(rt, b"registers 12", [CUT, 12, 12, 12])
 }
 
 fn loads(rt: &impl Print) -> io::Result<()> {
-    instruction(rt, b"group 0", LOAD, 0, 0, 0)?;
-    instruction(rt, b"group 9999", LOAD, 0, 9999, 0)?;
-    instruction(rt, b"group 10000", LOAD, 0, 10000, 0)?;
-    instruction(rt, b"group 60000", LOAD, 0, 60000, 0)?;
-    instruction(rt, b"group 60001", LOAD, 0, 60001, 0)?;
-    instruction(rt, b"LOAD with a last number not 0", LOAD, 0, 7, 1)?;
+    instruction(rt, b"group 0", [LOAD, 0, 0, 0])?;
+    instruction(rt, b"group 9999", [LOAD, 0, 9999, 0])?;
+    instruction(rt, b"group 10000", [LOAD, 0, 10000, 0])?;
+    instruction(rt, b"group 60000", [LOAD, 0, 60000, 0])?;
+    instruction(rt, b"group 60001", [LOAD, 0, 60001, 0])?;
+    instruction(rt, b"LOAD with a last number not 0", [LOAD, 0, 7, 1])?;
     case(
         rt,
         b"a fault in the second instruction",

@@ -11,7 +11,7 @@ fn answer(
     sheet: &[u8],
     out: &mut [u8],
     device: printing::Device,
-) -> key::KeyAnswer {
+) -> Result<usize, key::ShortBuffer> {
     if !input::has_argument(rt, 1) {
         return key::key(sheet, out, device);
     }
@@ -29,7 +29,7 @@ pub fn print_key(
     let count = input::read_full(&mut rt.reader(), &mut sheet);
     let mut out = [0u8; key::KEY_BYTES];
     let answer = answer(rt, &sheet[..count], &mut out, device);
-    let key::KeyAnswer::Written(count) = answer else {
+    let Ok(count) = answer else {
         return Ok(());
     };
     output::print(rt, &out, count)

@@ -1,5 +1,5 @@
 -- What contracts of the functions that print cite: a line's bytes, and the lines of a code's numbers.
-use Rattle.std.specs.Prelude.{List, ℕ}
+use Rattle.std.specs.Prelude.{List, ℕ, get_or}
 use Rattle.common.specs.Fours.{fours}
 use Rattle.text.specs.Line.{Row, line}
 use Rattle.player.specs.Instructions as newer
@@ -16,6 +16,9 @@ row_text r = line r.word r.numbers
 abbrev pub row_of : Device → ℕ → ℕ → ℕ → ℕ → Row
 row_of Newer kind a b c = instruction_row (newer.instruction kind a b c)
 row_of Older kind a b c = older_row (older.instruction kind a b c)
+
+abbrev pub four_row : Device → List ℕ → Row
+four_row d four = row_of d (get_or four 0 0) (get_or four 1 0) (get_or four 2 0) (get_or four 3 0)
 
 -- the lines of a code, whose numbers go four by four
 abbrev pub code_rows : Device → List ℕ → List Row

@@ -1,5 +1,5 @@
 -- An entry's byte, the fields of entries as they are written, and the line in its array.
-use mathlib.Core.Path.{◌≡◌, refl, sym, ap, ◌∙◌}
+use mathlib.Core.Path.{◌≡◌, refl, sym, ap, ◌∙◌, subst}
 use mathlib.Core.Bool.{true}
 use mathlib.Core.List.{List, [], ◌∷◌, ◌++◌, append_assoc, append-nil}
 use mathlib.Core.Option.{Option, some}
@@ -21,10 +21,12 @@ use Rattle.text.proofs.LineLaws.{line_length}
 use Rattle.sheet.specs.Form.{letter_for}
 use Rattle.printing.specs.Key.{NO}
 use Rattle.questions.specs.Questions.{entries, questions}
-use Rattle.questions.specs.Answer.{reply_says, GivesTree}
+use Rattle.std.specs.Prelude.{Result, Ok, Err}
+use Rattle.questions.specs.Answer.{refusal_number, GivesTree}
 use Rattle.questions.specs.InnerCounts.{are_entries}
 use Rattle.questions.specs.declared.Question.{Question}
-use Rattle.questions.specs.declared.Reply.TheVariants.{Done, Refused}
+use Rattle.questions.specs.declared.Refusal.{Refusal}
+use Rattle.questions.specs.declared.Refusal.TheVariants.{NoQuestion}
 use Rattle.questions.proofs.ListLaws.{at_below, Every}
 use Rattle.questions.proofs.TreeLaws.{of_entry, tested, question_test, only_questions}
 use Rattle.questions.proofs.WordLaws.{questions_count}
@@ -100,24 +102,23 @@ pub record TreeGiven (i n : ℕ) (held l : List ℕ) : Type 0 where
   pub entries : are_entries l ≡ true
   pub line : in_line (line_text i (some l)) ≡ line_at i
 
-module _ {i : ℕ} {q : Question} {n : ℕ} (G : GivesTree i q) where
-  pub tree_given : q.reply ≡ Done n → TreeGiven i n q.entries (take n q.entries)
-  tree_given d =
-      let l = take n q.entries in
-      let e = tree_done G n (ap reply_says d) in
-      let T = tested l (question_test l (only_questions i l e.0)) in
-      record {
-        index = omega (arith, at_below questions i l e.0, questions_count);
-        room = omega (arith, e.1, length-take n q.entries);
-        count = sym e.1;
-        few = T.few;
-        entries = T.entries;
-        line = ap (λ (o : Option (List ℕ)). in_line (line_text i o)) (sym e.0);
-      }
+pub tree_given : {i : ℕ} {q : Question} {r : Result Question Refusal} → GivesTree i r → r ≡ Ok q → TreeGiven i q.count q.entries (take q.count q.entries)
+tree_given {i} {q} G d =
+    let l = take q.count q.entries in
+    let e = tree_done (subst (GivesTree i) d G) in
+    let T = tested l (question_test l (only_questions i l e.0)) in
+    record {
+      index = omega (arith, at_below questions i l e.0, questions_count);
+      room = omega (arith, e.1, length-take q.count q.entries);
+      count = sym e.1;
+      few = T.few;
+      entries = T.entries;
+      line = ap (λ (o : Option (List ℕ)). in_line (line_text i o)) (sym e.0);
+    }
 
-  pub refusal_given : q.reply ≡ Refused n → in_line (line NO (n ∷ [])) ≡ line_at i
-  unfolding line_text
-  refusal_given d = let e = tree_refused G d in ap (λ (n : ℕ). in_line (line NO (n ∷ []))) e.1 ∙ ap (λ (o : Option (List ℕ)). in_line (line_text i o)) (sym e.0)
+pub refusal_given : {i n : ℕ} {refusal : Refusal} {r : Result Question Refusal} → GivesTree i r → r ≡ Err refusal → n ≡ refusal_number refusal → in_line (line NO (n ∷ [])) ≡ line_at i
+unfolding line_text
+refusal_given {i} {refusal = NoQuestion} G d e = ap (λ (n : ℕ). in_line (line NO (n ∷ []))) e ∙ ap (λ (o : Option (List ℕ)). in_line (line_text i o)) (sym (tree_refused (subst (GivesTree i) d G)))
 
 -- ---- a refusal's line fits
 pub refusal_fits : (n : ℕ) → n < 10 ^ 5 → length (line NO (n ∷ [])) ≤ line_bytes

@@ -13,13 +13,12 @@ ghost use Rattle.questions.specs.InnerCounts.{are_entries};
 ghost use Rattle.question_lines.specs.Lines.{printed_as, line_text, in_line, line_at};
 ghost use Rattle.question_lines.specs.InnerFields.{entries_after};
 
-use questions::Reply;
 use tree::{DIFFERENCE, UNION};
 
 // An index of four digits, seven entries of one byte with a tab before each, and LF.
 pub const LINE_BYTES: usize = 19;
 
-// A line, with 0 behind it.
+// A line, with 0 behind it. (No heap: so the array is as long as the longest line.)
 #[derive(Clone, Copy)]
 pub struct QuestionLine {
     pub bytes: [u8; LINE_BYTES],
@@ -45,12 +44,10 @@ fn put_entries(list: &[u16], out: &mut [u8], at: usize) -> usize
     requires { (are_entries list.now ≡ true) × (at + 2 * length list.now ≤ length out.old) }
     ensures { (result ≡ at + 2 * length list.now) × Wrote out.old at out.new result (entries_after list.now) }
 {
-    let mut i = 0;
     let mut next = at;
-    while i < list.len() {
-        let field = [text::TAB, entry_byte(list[i])];
-        next = text::put_bytes(&field, out, next);
-        i += 1;
+    for x in list {
+        let field = [text::TAB, entry_byte(*x)];
+        next = tree::copy(&field, out, next);
     }
     next
 }
@@ -63,7 +60,7 @@ fn put_tree(index: usize, list: &[u16]) -> QuestionLine
     let mut bytes = [0u8; LINE_BYTES];
     let first = text::put_decimal(index, &mut bytes, 0);
     let next = put_entries(list, &mut bytes, first);
-    let count = text::put_byte(text::LINE_FEED, &mut bytes, next);
+    let count = tree::write_one(text::LINE_FEED, &mut bytes, next);
     QuestionLine { bytes, count }
 }
 
@@ -80,11 +77,8 @@ fn put_refusal(number: u16) -> QuestionLine
 pub fn line_at(index: usize) -> QuestionLine
     ensures { result ≡ line_at index }
 {
-    let question = questions::tree_at(index);
-    let entries = question.entries;
-    let reply = question.reply;
-    match reply {
-        Reply::Done(length) => put_tree(index, &entries[..length]),
-        Reply::Refused(number) => put_refusal(number),
+    match questions::tree_at(index) {
+        Ok(question) => put_tree(index, &question.entries[..question.count]),
+        Err(refusal) => put_refusal(u16::from(refusal)),
     }
 }

@@ -10,7 +10,8 @@ use Rattle.common.specs.Answer.{done}
 use Rattle.questions.specs.Questions.{questions_of, lengths, questions}
 use Rattle.questions.specs.Answer.{tree_at, index_of, most_entries, value_or30, in_array, GivesTree, GivesIndex}
 use Rattle.questions.specs.InnerCounts.{is_question, count, Located, of_length}
-use Rattle.questions.specs.declared.Reply.TheVariants.{Done, Refused}
+use Rattle.std.specs.Prelude.{Ok, Err}
+use Rattle.questions.specs.declared.Refusal.TheVariants.{NoQuestion}
 use Rattle.questions.proofs.ListLaws.{at_past, at_some}
 use Rattle.questions.proofs.TreeLaws.{question_test}
 use Rattle.questions.proofs.IndexLaws.{index_none}
@@ -23,10 +24,8 @@ tree_past i h = at_past questions i (omega (arith, h, questions_count))
 pub tree_some : (i : ℕ) → i < 3477 → (l : List ℕ) × (tree_at i ≡ some l)
 tree_some i h = at_some questions i (omega (arith, questions_count))
 
-pub gives_none : (i : ℕ) → 3477 ≤ i → GivesTree i (record { reply = Refused 30; entries = replicate most_entries 0 })
-gives_none i h =
-    let e = tree_past i h in
-    record { says = sym (ap (λ (o : Option (List ℕ)). value_or30 (map length o)) e); holds = sym (ap in_array e) }
+pub gives_none : (i : ℕ) → 3477 ≤ i → GivesTree i (Err NoQuestion)
+gives_none i h = record { says = sym (ap (λ (o : Option (List ℕ)). value_or30 (map length o)) (tree_past i h)); holds = tt }
 
 -- the questions of its length, among which it is
 module _ {i n k : ℕ} (L : Located lengths of_length i n k) (h : i < 3477) (few : n ≤ most_entries) where
@@ -36,7 +35,7 @@ module _ {i n k : ℕ} (L : Located lengths of_length i n k) (h : i < 3477) (few
   pub index_below : k < count n 0
   index_below = (questions_below n k (tree_some i h).0 few found).0
 
-  pub gives_some : (e : List ℕ) → ((l : List ℕ) → get_elem? (questions_of n) k ≡ some l → e ≡ in_array (some l)) → GivesTree i (record { reply = Done n; entries = e })
+  pub gives_some : (e : List ℕ) → ((l : List ℕ) → get_elem? (questions_of n) k ≡ some l → e ≡ in_array (some l)) → GivesTree i (Ok (record { entries = e; count = n }))
   gives_some e w =
       let l = (tree_some i h).0 in
       let t = (tree_some i h).1 in
@@ -46,8 +45,8 @@ module _ {i n k : ℕ} (L : Located lengths of_length i n k) (h : i < 3477) (few
       }
 
 -- ---- `index_of`
-pub gives_index : (l : List ℕ) (i : ℕ) → index_of l ≡ some i → GivesIndex l (Done i)
+pub gives_index : (l : List ℕ) (i : ℕ) → index_of l ≡ some i → GivesIndex l (Ok i)
 gives_index l i e = record { says = sym (ap value_or30 e) }
 
-pub gives_no_index : (l : List ℕ) → is_question l ≡ false → GivesIndex l (Refused 30)
+pub gives_no_index : (l : List ℕ) → is_question l ≡ false → GivesIndex l (Err NoQuestion)
 gives_no_index l e = record { says = sym (ap value_or30 (index_none l (λ Q. true≢false (sym (question_test l Q) ∙ e)))) }

@@ -1,12 +1,13 @@
 -- What 02 says of the list, as a property of any list of lists, and of what `tree_at` hands over. The theorems of request 10 speak of it,
 -- no contract does.
-use Rattle.std.specs.Prelude.{◌≡◌, Bool, true, false, ◌&&◌, ◌||◌, List, [], ◌∷◌, ℕ, ◌<◌, eqb, ltb, length, take}
+use Rattle.std.specs.Prelude.{◌≡◌, Bool, true, false, ◌&&◌, ◌||◌, List, [], ◌∷◌, ℕ, ◌<◌, eqb, ltb, length, take, Result, IfOk}
 use Rattle.std.proofs.Math.Option.{some}
 use Rattle.std.proofs.Math.ListN.{get_elem?}
 use Rattle.common.specs.Answer.{done}
 use Rattle.tree.specs.Tree.{Tree, postfix, leaves, Over, is_up_to, WithoutIntersection}
-use Rattle.questions.specs.Answer.{reply_says}
+use Rattle.questions.specs.Answer.{reply_says, count_of}
 use Rattle.questions.specs.declared.Question.{Question}
+use Rattle.questions.specs.declared.Refusal.{Refusal}
 
 -- the list of a "tree with one to four leaves over groups 1, 2 and 3"; "`I` stays out of it."
 pub record IsQuestion (l : List ℕ) : Type 0 where
@@ -33,6 +34,6 @@ pub record Holds (qs : List (List ℕ)) : Type 0 where
   pub rising : (i j : ℕ) (l m : List ℕ) → i < j → get_elem? qs i ≡ some l → get_elem? qs j ≡ some m → precedes l m ≡ true
 
 -- `tree_at` hands over this list: so many entries, the first ones of the array
-pub record HandsOver (q : Question) (l : List ℕ) : Type 0 where
-  pub count : reply_says q.reply ≡ done (length l ∷ [])
-  pub list : take (length l) q.entries ≡ l
+pub record HandsOver (r : Result Question Refusal) (l : List ℕ) : Type 0 where
+  pub count : reply_says (count_of r) ≡ done (length l ∷ [])
+  pub list : IfOk r (λ question. take (length l) question.entries ≡ l)

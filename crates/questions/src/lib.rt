@@ -6,32 +6,40 @@ ghost use Rattle.std.proofs.Math.Option.{some};
 ghost use Rattle.std.proofs.Math.ListN.{get_elem?};
 ghost use Rattle.tree.specs.Tree.{union, sign};
 ghost use Rattle.questions.specs.Questions.{entries, questions_of, lengths};
-ghost use Rattle.questions.specs.Answer.{index_of, in_array, GivesTree, GivesIndex};
+ghost use Rattle.questions.specs.Answer.{refusal_number, index_of, in_array, GivesTree, GivesIndex};
 ghost use Rattle.questions.specs.InnerCounts.{are_entries, is_question, count, behind_operator, after, by_kind, ahead, Located, of_length, Row};
 
 use tree::{DIFFERENCE, UNION};
 
-// 02's numbers: how many there are, and the number of refusal; the entries of a tree of four leaves.
+// How many there are, and the entries of a tree of four leaves.
 pub const QUESTIONS: usize = 3477;
-
-pub const NO_QUESTION: u16 = 30;
 
 pub const MOST_ENTRIES: usize = 7;
 
 const ENTRIES: [u16; 5] = [1, 2, 3, UNION, DIFFERENCE];
 
-// A call's answer: how many entries the tree has, or the tree's index; or the refusal's number.
-#[derive(Clone, Copy)]
-pub enum Reply {
-    Done(usize),
-    Refused(u16),
+// Why a call refuses: there is no question with the index, or the list is none.
+#[derive(Clone, Copy, Debug, PartialEq, Eq)]
+pub enum Refusal {
+    NoQuestion,
 }
 
-// A tree by value: its entries with 0 behind them. Refused, all are 0.
+impl From<Refusal> for u16 {
+    ghost from_gives = { λ refusal number. number ≡ refusal_number refusal };
+
+    // 02's number.
+    fn from(refusal: Refusal) -> u16 {
+        match refusal {
+            Refusal::NoQuestion => 30,
+        }
+    }
+}
+
+// A tree by value: its entries with 0 behind them, and how many they are. (No heap: so the array is as long as the longest.)
 #[derive(Clone, Copy)]
 pub struct Question {
-    pub reply: Reply,
     pub entries: [u16; MOST_ENTRIES],
+    pub count: usize,
 }
 
 // A part of a list of lists, by the length or the first entry that its lists share, and an index in it.
@@ -183,11 +191,8 @@ fn beginning(k: usize, behind: Behind) -> Place
 fn are_entries(list: &[u16]) -> bool
     ensures { result ≡ are_entries list.now }
 {
-    let mut i = 0;
-    while i < list.len() {
-        if tree::is_in(&ENTRIES, list[i]) {
-            i += 1;
-        } else {
+    for x in list {
+        if !tree::is_in(&ENTRIES, *x) {
             return false;
         }
     }
@@ -198,10 +203,7 @@ fn are_entries(list: &[u16]) -> bool
 fn is_question(list: &[u16]) -> bool
     ensures { result ≡ is_question list.now }
 {
-    if MOST_ENTRIES < list.len() {
-        return false;
-    }
-    are_entries(list) & tree::is_tree(list)
+    list.len() <= MOST_ENTRIES && are_entries(list) && tree::is_tree(list)
 }
 
 // How many trees wait behind an entry.
@@ -223,35 +225,26 @@ fn list_at(length: usize, k: usize) -> [u16; MOST_ENTRIES]
     let mut entries = [0u16; MOST_ENTRIES];
     let mut waiting: usize = 0;
     let mut rest = k;
-    let mut i = 0;
-    while i < length {
+    for i in 0..length {
         let place = beginning(rest, count_behind(length - i - 1, waiting));
-        let x = place.part;
-        entries[i] = x;
+        entries[i] = place.part;
         rest = place.index;
-        waiting = after(x, waiting);
-        i += 1;
+        waiting = after(place.part, waiting);
     }
     entries
 }
 
 // The tree with an index.
-pub fn tree_at(index: usize) -> Question
+pub fn tree_at(index: usize) -> Result<Question, Refusal>
     ensures { GivesTree index result }
 {
     if QUESTIONS <= index {
-        return Question {
-            reply: Reply::Refused(NO_QUESTION),
-            entries: [0; MOST_ENTRIES],
-        };
+        return Err(Refusal::NoQuestion);
     }
     let place = length_at(index);
-    let length = place.part as usize;
-    let entries = list_at(length, place.index);
-    Question {
-        reply: Reply::Done(length),
-        entries,
-    }
+    let count = place.part as usize;
+    let entries = list_at(count, place.index);
+    Ok(Question { entries, count })
 }
 
 // The index of a list that is a question: how many are shorter, and for each entry how many agree before it and have an earlier one there.
@@ -261,22 +254,19 @@ fn index_in(list: &[u16]) -> usize
 {
     let mut index = shorter(list.len()) as usize;
     let mut waiting: usize = 0;
-    let mut i = 0;
-    while i < list.len() {
-        let x = list[i];
-        index += preceding(x, count_behind(list.len() - i - 1, waiting));
-        waiting = after(x, waiting);
-        i += 1;
+    for (i, x) in list.iter().enumerate() {
+        index += preceding(*x, count_behind(list.len() - i - 1, waiting));
+        waiting = after(*x, waiting);
     }
     index
 }
 
 // A tree's index.
-pub fn index_of(list: &[u16]) -> Reply
+pub fn index_of(list: &[u16]) -> Result<usize, Refusal>
     ensures { GivesIndex list.now result }
 {
-    if is_question(list) {
-        return Reply::Done(index_in(list));
+    if !is_question(list) {
+        return Err(Refusal::NoQuestion);
     }
-    Reply::Refused(NO_QUESTION)
+    Ok(index_in(list))
 }

@@ -23,8 +23,11 @@ fn print_all(rt: &impl Print) -> io::Result<()> {
 fn main(rt: HostRuntime) -> io::Result<()> {
     let mut argument = [0u8; 4096];
     match rt.arg(1, &mut argument) {
-        Ok(length) => print_one(&rt, text::number(&argument[..length]) as usize),
-        Err(FillError::TooLong) => print_one(&rt, text::NO_NUMBER as usize),
+        Ok(length) => {
+            let index = text::number(&argument[..length]);
+            print_one(&rt, index.map_or(questions::QUESTIONS, usize::from))
+        }
+        Err(FillError::TooLong) => print_one(&rt, questions::QUESTIONS),
         Err(FillError::NotPresent) => print_all(&rt),
     }
 }

@@ -1,12 +1,13 @@
 -- What reading accepts: one tree within the limits, marks that are its groups, lifts that stand line by line. The proof
 -- follows the lines with a sound state and the lifts read so far; each line takes a byte at least.
+use Rattle.std.proofs.Common.{Option, Some, None, Ok, Err}
 use mathlib.Core.Path.{◌≡◌, refl, sym, ap, ap₂, ◌∙◌}
 use mathlib.Core.Bool.{Bool, true, false, cond}
 use mathlib.Core.List.{List, [], ◌∷◌, ◌++◌}
 use mathlib.Core.Option.{some}
 use Prim.Native.Nat.{ℕ, zero, suc, ◌+◌, ◌≤◌, ◌<◌}
 use native.Mathlib.Omega.{arith}
-use borrow.Author.Tests.{eqb-true, eqb-false, ltb-true, ltb-false}
+use borrow.Author.Tests.{eqb-true, ltb-true, ltb-false}
 use lib.Dec.{eqb, ltb}
 use lib.ListN.{length, replicate, take, drop, length-append}
 use Rattle.tree.specs.Tree.{Tree, most_nodes, most_group, postfix, size, is_in, collect, groups, leaves, most_groups}
@@ -21,11 +22,13 @@ use Rattle.text.specs.Line.{line_feed}
 use Rattle.sheet.specs.Form.{line_of}
 use Rattle.sheet.specs.InnerLines.{line_at, LiftRange, LiftsTo}
 use Rattle.sheet.specs.Rules.{Rules, sheet_rules, candidate_rules}
-use Rattle.sheet.specs.Reading.{most_bytes, LiftLine, ReadingState, ended, trees, fault_of, entered, state_after, nothing_read, ReadingOutcome, accepted, refused, read_lines, read_with, reading, sheet_of}
+use Rattle.sheet.specs.Reading.{most_bytes, LiftLine, ReadingState, ended, trees, fault_of, entered, state_after, nothing_read, ReadingOutcome, accepted, refused, read_lines, read_with, reading, sheet_with, sheet_of}
 use Rattle.sheet.specs.InnerHolding.{InRange, Sound}
-use Rattle.sheet.specs.InnerDrawing.{drawing_of}
+use Rattle.sheet.specs.InnerDrawing.{drawing_with, drawing_of}
+use Rattle.sheet.specs.declared.Sheet.{Sheet}
+use Rattle.sheet.specs.declared.Drawing.{Drawing}
 use Rattle.sheet.specs.declared.Line.{Line}
-use Rattle.sheet.specs.declared.Line.TheVariants.{Group, Operator, Lift, Mark, End, Bad}
+use Rattle.sheet.specs.declared.Line.TheVariants.{Group, Operator, Lift, Mark, End}
 use Rattle.sheet.proofs.EntriesLaws.{one_tree}
 use Rattle.sheet.proofs.LineAtLaws.{line_at_range, one_line, lines_end}
 use Rattle.sheet.proofs.SoundLaws.{order_none, none_of, bad_fault, sound_next, sound_nothing_read}
@@ -51,7 +54,7 @@ no_outcome e = absurd (let z : ◌≡◌ {A = ℕ} 0 1 = cc in omega arith)
 
 -- ---- a line of an accepted file has no fault, and what comes after it is accepted
 module _ (rules : Rules) (end : ReadingState) where
-  pub record PassedLine (st : ReadingState) (n at : ℕ) (k : Line) (ls : Parts) : Type 0 where
+  pub record PassedLine (st : ReadingState) (n at : ℕ) (k : Option Line) (ls : Parts) : Type 0 where
     pub faultless : fault_of rules st k ≡ 0
     pub later : read_lines rules (state_after st k at) (n + 1) at ls ≡ accepted end
 
@@ -59,7 +62,7 @@ module _ (rules : Rules) (end : ReadingState) where
   unfolding read_lines
   passed_line st n at l ls e = go (eqb (fault_of rules st k) 0) refl e
     where
-      k : Line
+      k : Option Line
       k = line_of rules l
 
       go : (b : Bool) → eqb (fault_of rules st k) 0 ≡ b
@@ -98,7 +101,7 @@ lifts_none : (rules : Rules) (s : List ℕ) (at : ℕ) → LiftsTo rules s at []
 unfolding LiftsTo
 lifts_none rules s at = refl
 
-lifts_snoc : (rules : Rules) (s : List ℕ) (from at : ℕ) (ms : List LiftLine) (m : LiftLine) → LiftsTo rules s from ms at → (line_at rules s at).line ≡ Lift m.position m.levels → LiftRange m
+lifts_snoc : (rules : Rules) (s : List ℕ) (from at : ℕ) (ms : List LiftLine) (m : LiftLine) → LiftsTo rules s from ms at → (line_at rules s at).line ≡ Some (Lift m.position m.levels) → LiftRange m
     → LiftsTo rules s from (ms ++ (m ∷ [])) (line_at rules s at).next
 unfolding LiftsTo
 lifts_snoc rules s from at [] m e l r = rw e (l, r, refl)
@@ -115,21 +118,21 @@ path_over : (rules : Rules) (s : List ℕ) (st : ReadingState) (at after phase :
 path_over rules s st at after phase ms p h =
     record { to = p.to; lifts = p.lifts; here = λ z. absurd (omega arith); none_yet = λ z. absurd (omega arith) }
 
-path_next : (rules : Rules) (s : List ℕ) (st : ReadingState) (at : ℕ) (l : Line) → Path rules s st at → (line_at rules s at).line ≡ l → InRange l → fault_of rules st l ≡ 0
+path_next : (rules : Rules) (s : List ℕ) (st : ReadingState) (at : ℕ) (l : Option Line) → Path rules s st at → (line_at rules s at).line ≡ l → InRange l → fault_of rules st l ≡ 0
     → Path rules s (state_after st l (line_at rules s at).next) (line_at rules s at).next
-path_next rules s st at Bad p q r e = absurd (bad_fault rules st e)
-path_next rules s st at (Group g) p q r e = path_entered rules s st at g _ _ p (order_none st.phase (length (trees st.entries)) 0 (none_of rules st (Group g) e).0).0
-path_next rules s st at (Operator x) p q r e = path_entered rules s st at x _ _ p (order_none st.phase (length (trees st.entries)) 0 (none_of rules st (Operator x) e).0).0
-path_next rules s st at (Lift k n) p q r e =
-    let h : p.to ≡ at = p.here (order_none st.phase (length (trees st.entries)) 1 (none_of rules st (Lift k n) e).0).0 in
+path_next rules s st at None p q r e = absurd (bad_fault rules st e)
+path_next rules s st at (Some (Group g)) p q r e = path_entered rules s st at g _ _ p (order_none st.phase (length (trees st.entries)) 0 (none_of rules st (Some (Group g)) e).0).0
+path_next rules s st at (Some (Operator x)) p q r e = path_entered rules s st at x _ _ p (order_none st.phase (length (trees st.entries)) 0 (none_of rules st (Some (Operator x)) e).0).0
+path_next rules s st at (Some (Lift k n)) p q r e =
+    let h : p.to ≡ at = p.here (order_none st.phase (length (trees st.entries)) 1 (none_of rules st (Some (Lift k n)) e).0).0 in
     record {
       to = (line_at rules s at).next;
       lifts = lifts_snoc rules s st.start at st.lifts (record { position = k; levels = n }) (rw h at p.lifts) q r;
       here = λ z. refl;
       none_yet = λ z. absurd (omega arith);
     }
-path_next rules s st at (Mark g) p q r e = path_over rules s st at _ 2 _ p (omega arith)
-path_next rules s st at End p q r e = path_over rules s st at _ ended _ p (omega arith)
+path_next rules s st at (Some (Mark g)) p q r e = path_over rules s st at _ 2 _ p (omega arith)
+path_next rules s st at (Some End) p q r e = path_over rules s st at _ ended _ p (omega arith)
 
 -- ---- at the end
 accepted_of : (rules : Rules) (s : List ℕ) (st : ReadingState) (at : ℕ) → rules.nodes ≤ most_nodes → Sound rules st → Path rules s st at → st.phase ≡ ended → Accepted rules s st
@@ -171,7 +174,7 @@ module _ (rules : Rules) (s : List ℕ) (m : rules.nodes ≤ most_nodes) (g : ru
   accepted_lines zero st n at f S p e = at_end st n at S p (sym (lines_end rules st n at s (omega arith)) ∙ e)
   accepted_lines (suc fuel) st n at f S p e = go (ltb at (length s)) refl (accepted_lines fuel)
     where
-      l : Line
+      l : Option Line
       l = (line_at rules s at).line
 
       to : ℕ
@@ -210,91 +213,52 @@ accepted_short s st e = go (ltb most_bytes (length s)) refl e
     go true q e = no_outcome e
     go false q e = ltb-false most_bytes (length s) q
 
--- ---- a refusal's number is not 0, so that the number tells
-refused_line : (o : ReadingOutcome) (f n number line : ℕ) → cond (eqb f 0) o (refused f n) ≡ refused number line
-    → (o ≡ refused number line → number ≡ 0 → ⊥) → number ≡ 0 → ⊥
-refused_line o f n number line e later z = go (eqb f 0) refl e
-  where
-    go : (b : Bool) → eqb f 0 ≡ b → cond b o (refused f n) ≡ refused number line → ⊥
-    go true q e = later e z
-    go false q e = let r : f ≡ number = cc in eqb-false f 0 q (r ∙ z)
+-- ---- what an answer tells of what reading comes to
+parted : {a b c d : ℕ} {X : Type 0} → ◌≡◌ {A = ℕ × ℕ} (a, b) (c, d) → (a ≡ c → b ≡ d → X) → X
+parted e f = f (ap (λ (p : ℕ × ℕ). p.0) e) (ap (λ (p : ℕ × ℕ). p.1) e)
 
-refused_lines : (rules : Rules) (ps : Parts) (st : ReadingState) (n at number line : ℕ) → read_lines rules st n at ps ≡ refused number line → number ≡ 0 → ⊥
-unfolding read_lines
-refused_lines rules (last l) st n at number line e z = go (eqb (length l) 0) (eqb st.phase ended) e
-  where
-    go : (a b : Bool) → cond a (cond b (accepted st) (refused 10 (n + 1))) (refused 2 (n + 1)) ≡ refused number line → ⊥
-    go true true e = let q : ◌≡◌ {A = ℕ} 0 1 = cc in omega arith
-    go true false e = let q : number ≡ 10 = cc in omega arith
-    go false b e = let q : number ≡ 2 = cc in omega arith
-refused_lines rules (part l ls) st n at number line e z =
-    refused_line _ (fault_of rules st (line_of rules l)) (n + 1) number line e (refused_lines rules ls _ _ _ number line) z
-
-pub refused_number : (rules : Rules) (s : List ℕ) (number line : ℕ) → read_with rules s ≡ refused number line → number ≡ 0 → ⊥
-unfolding read_with
-refused_number rules s number line e z = go (ltb most_bytes (length s)) e
-  where
-    go : (b : Bool) → cond b (refused 1 0) (read_lines rules nothing_read 0 0 (split line_feed s)) ≡ refused number line → ⊥
-    go true e = let q : number ≡ 1 = cc in omega arith
-    go false e = refused_lines rules (split line_feed s) nothing_read 0 0 number line e z
-
--- an answer's number that is a refusal's number and 0 for an accepted file tells which it is
-module _ (rules : Rules) (s : List ℕ) (number line : ReadingOutcome → ℕ) (numbered : (n l : ℕ) → number (refused n l) ≡ n) where
-  told_accepted : number (read_with rules s) ≡ 0 → (st : ReadingState) × (read_with rules s ≡ accepted st)
-  told_accepted e = go (read_with rules s) refl e
-    where
-      go : (o : ReadingOutcome) → read_with rules s ≡ o → number o ≡ 0 → (st : ReadingState) × (read_with rules s ≡ accepted st)
-      go (accepted st) q e = (st, q)
-      go (refused n l) q e = absurd (refused_number rules s n l q (sym (numbered n l) ∙ e))
-
-  told_refused : ((st : ReadingState) → number (accepted st) ≡ 0) → ((n l : ℕ) → line (refused n l) ≡ l) → (number (read_with rules s) ≡ 0 → ⊥)
-      → read_with rules s ≡ refused (number (read_with rules s)) (line (read_with rules s))
-  told_refused none lined n = go (read_with rules s) n
-    where
-      go : (o : ReadingOutcome) → (number o ≡ 0 → ⊥) → o ≡ refused (number o) (line o)
-      go (accepted st) n = absurd (n (none st))
-      go (refused k l) n = sym (ap₂ refused (numbered k l) (lined k l))
-
--- the number of `read`, and that of `read_drawing`
-pub number_accepted : (s : List ℕ) → (sheet_of (reading s)).number ≡ 0 → (st : ReadingState) × (reading s ≡ accepted st)
+pub sheet_accepted : (o : ReadingOutcome) {sheet : Sheet} → Ok sheet ≡ sheet_of o → (st : ReadingState) × (o ≡ accepted st) × (sheet ≡ sheet_with st)
 unfolding sheet_of
-number_accepted s = told_accepted sheet_rules s (λ o. (sheet_of o).number) (λ o. (sheet_of o).line) (λ n l. refl)
+sheet_accepted (accepted st) e = (st, refl, cc)
+sheet_accepted (refused number line) e = absurd (let z : ◌≡◌ {A = ℕ} 0 1 = cc in omega arith)
 
-pub number_refused : (s : List ℕ) → ((sheet_of (reading s)).number ≡ 0 → ⊥) → reading s ≡ refused (sheet_of (reading s)).number (sheet_of (reading s)).line
+pub sheet_refused : (o : ReadingOutcome) (number line : ℕ) → Err (number, line) ≡ sheet_of o → o ≡ refused number line
 unfolding sheet_of
-number_refused s = told_refused sheet_rules s (λ o. (sheet_of o).number) (λ o. (sheet_of o).line) (λ n l. refl) (λ st. refl) (λ n l. refl)
+sheet_refused (accepted st) n l e = absurd (let z : ◌≡◌ {A = ℕ} 0 1 = cc in omega arith)
+sheet_refused (refused number line) n l e = parted (cc) (λ p q. ap₂ refused (sym p) (sym q))
 
-pub drawing_accepted : (s : List ℕ) → (drawing_of (read_with candidate_rules s)).number ≡ 0 → (st : ReadingState) × (read_with candidate_rules s ≡ accepted st)
+pub drawing_accepted : (o : ReadingOutcome) {drawing : Drawing} → Ok drawing ≡ drawing_of o → (st : ReadingState) × (o ≡ accepted st) × (drawing ≡ drawing_with st)
 unfolding drawing_of
-drawing_accepted s = told_accepted candidate_rules s (λ o. (drawing_of o).number) (λ o. (drawing_of o).line) (λ n l. refl)
+drawing_accepted (accepted st) e = (st, refl, cc)
+drawing_accepted (refused number line) e = absurd (let z : ◌≡◌ {A = ℕ} 0 1 = cc in omega arith)
 
-pub drawing_refused : (s : List ℕ) → ((drawing_of (read_with candidate_rules s)).number ≡ 0 → ⊥)
-    → read_with candidate_rules s ≡ refused (drawing_of (read_with candidate_rules s)).number (drawing_of (read_with candidate_rules s)).line
+pub drawing_refused : (o : ReadingOutcome) (number line : ℕ) → Err (number, line) ≡ drawing_of o → o ≡ refused number line
 unfolding drawing_of
-drawing_refused s = told_refused candidate_rules s (λ o. (drawing_of o).number) (λ o. (drawing_of o).line) (λ n l. refl) (λ st. refl) (λ n l. refl)
+drawing_refused (accepted st) n l e = absurd (let z : ◌≡◌ {A = ℕ} 0 1 = cc in omega arith)
+drawing_refused (refused number line) n l e = parted (cc) (λ p q. ap₂ refused (sym p) (sym q))
 
 -- ---- the arrays of an accepted sheet's answer hold its tree's entries and its marks
-pub answered_tree : (st : ReadingState) → take (sheet_of (accepted st)).nodes (sheet_of (accepted st)).tree ≡ st.entries
-unfolding sheet_of
+pub answered_tree : (st : ReadingState) → take (sheet_with st).nodes (sheet_with st).tree ≡ st.entries
+unfolding sheet_with
 answered_tree st = take_over st.entries (replicate sheet_rules.nodes 0) (length st.entries) refl
 
-pub answered_marks : (st : ReadingState) → take (sheet_of (accepted st)).marked (sheet_of (accepted st)).marks ≡ st.marks
-unfolding sheet_of
+pub answered_marks : (st : ReadingState) → take (sheet_with st).marked (sheet_with st).marks ≡ st.marks
+unfolding sheet_with
 answered_marks st = take_over st.marks (replicate most_groups 0) (length st.marks) refl
 
 -- and have room for them
-pub answered_long : (st : ReadingState) → ((sheet_of (accepted st)).nodes ≤ length (sheet_of (accepted st)).tree) × ((sheet_of (accepted st)).marked ≤ length (sheet_of (accepted st)).marks)
-unfolding sheet_of
+pub answered_long : (st : ReadingState) → ((sheet_with st).nodes ≤ length (sheet_with st).tree) × ((sheet_with st).marked ≤ length (sheet_with st).marks)
+unfolding sheet_with
 answered_long st = (
   omega (arith, length-append st.entries (drop (length st.entries) (replicate sheet_rules.nodes 0))),
   omega (arith, length-append st.marks (drop (length st.marks) (replicate most_groups 0))),
 )
 
 -- the same of a drawing's answer
-pub drawn_tree : (st : ReadingState) → take (drawing_of (accepted st)).nodes (drawing_of (accepted st)).tree ≡ st.entries
-unfolding drawing_of
+pub drawn_tree : (st : ReadingState) → take (drawing_with st).nodes (drawing_with st).tree ≡ st.entries
+unfolding drawing_with
 drawn_tree st = take_over st.entries (replicate most_nodes 0) (length st.entries) refl
 
-pub drawn_long : (st : ReadingState) → (drawing_of (accepted st)).nodes ≤ length (drawing_of (accepted st)).tree
-unfolding drawing_of
+pub drawn_long : (st : ReadingState) → (drawing_with st).nodes ≤ length (drawing_with st).tree
+unfolding drawing_with
 drawn_long st = omega (arith, length-append st.entries (drop (length st.entries) (replicate most_nodes 0)))

@@ -1,5 +1,4 @@
 -- The laws of the definitions in specs/, for this crate and those above it.
-mod Auto
 mod EntriesLaws
 pub mod FormLaws
 pub mod LineAtLaws

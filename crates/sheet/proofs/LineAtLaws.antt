@@ -1,5 +1,6 @@
 -- The line at a byte, and one line more of reading.
-use mathlib.Core.Path.{◌≡◌, refl, sym, ap, ◌∙◌}
+use Rattle.std.proofs.Common.{None}
+use mathlib.Core.Path.{◌≡◌, refl, ap}
 use mathlib.Core.Bool.{Bool, true, false, cond}
 use mathlib.Core.List.{List}
 use Prim.Native.Nat.{ℕ, ◌+◌, ◌≤◌, ◌<◌}
@@ -19,23 +20,20 @@ use Rattle.sheet.specs.InnerLines.{first_line, line_at}
 use Rattle.sheet.specs.Rules.{Rules}
 use Rattle.sheet.specs.Reading.{ReadingState, ended, fault_of, state_after, accepted, refused, read_lines}
 use Rattle.sheet.specs.InnerHolding.{InRange}
-use Rattle.sheet.specs.declared.Line.TheVariants.{Bad}
 use Rattle.sheet.specs.declared.LineAt.{LineAt}
 use Rattle.sheet.proofs.FormLaws.{line_range, forms_alike}
 
-pub line_past : (rules : Rules) (s : List ℕ) (at : ℕ) → length s ≤ at → line_at rules s at ≡ record { line = Bad; next = at }
+pub line_past : (rules : Rules) (s : List ℕ) (at : ℕ) → length s ≤ at → line_at rules s at ≡ record { line = None; next = at }
 unfolding line_at split
-line_past rules s at h = rw (drop_of_length-le s h) (ap (λ (n : ℕ). record { line = Bad; next = n }) (omega arith))
+line_past rules s at h = rw (drop_of_length-le s h) (ap (λ (n : ℕ). record { line = None; next = n }) (omega arith))
 
--- k bytes stand ahead of the next LF
-module _ (rules : Rules) (s : List ℕ) (at k : ℕ) (e : k ≡ ahead line_feed (drop at s)) where
-  pub line_cut : k ≡ length (drop at s) → line_at rules s at ≡ record { line = Bad; next = at + k }
-  unfolding line_at
-  line_cut h = rw (split_all line_feed (drop at s) (sym e ∙ h), h)
+pub line_cut : (rules : Rules) (s : List ℕ) (at : ℕ) → at < length s → ahead line_feed (drop at s) ≡ length (drop at s) → line_at rules s at ≡ record { line = None; next = length s }
+unfolding line_at
+line_cut rules s at h e = rw (split_all line_feed (drop at s) e) (ap (λ (n : ℕ). record { line = None; next = n }) (omega (arith, length-drop at s)))
 
-  pub line_whole : k < length (drop at s) → line_at rules s at ≡ record { line = line_of rules (take k (drop at s)); next = at + k + 1 }
-  unfolding line_at
-  line_whole h = rw (split_first line_feed (drop at s) (rw e at h), ← e, length-take-le k (drop at s) (le_of_lt h))
+pub line_whole : (rules : Rules) (s : List ℕ) (at k : ℕ) → k ≡ ahead line_feed (drop at s) → k < length (drop at s) → line_at rules s at ≡ record { line = line_of rules (take k (drop at s)); next = at + k + 1 }
+unfolding line_at
+line_whole rules s at k e h = rw (split_first line_feed (drop at s) (rw e at h), ← e, length-take-le k (drop at s) (le_of_lt h))
 
 first_range : (rules : Rules) → rules.last_group ≤ most_group → (at : ℕ) (ps : Parts) → InRange (first_line rules at ps).line
 first_range rules m at (last l) = tt
@@ -66,9 +64,9 @@ pub record OneLine (rules : Rules) (s : List ℕ) (at : ℕ) (here : LineAt) : T
 cut_line : (rules : Rules) (s : List ℕ) (at : ℕ) → at < length s → ahead line_feed (drop at s) ≡ length (drop at s) → OneLine rules s at (line_at rules s at)
 unfolding read_lines fault_of
 cut_line rules s at h e =
-    rw (line_cut rules s at (ahead line_feed (drop at s)) refl e) (record {
-      more = omega (arith, length-drop at s);
-      within = omega (arith, length-drop at s);
+    rw (line_cut rules s at h e) (record {
+      more = h;
+      within = omega arith;
       goes = λ st n. rw (split_all line_feed (drop at s) e, ne_eqb (length (drop at s)) 0 (λ z. omega (arith, length-drop at s)));
     })
 

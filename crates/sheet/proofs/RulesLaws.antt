@@ -1,5 +1,6 @@
 -- One file read by two rules of which the second allow more: they come to the same, unless the stricter ones refuse what only the
 -- looser ones allow (`two_rules`). So what stricter rules accept, looser ones accept with the same state.
+use Rattle.std.proofs.Common.{Option, Some, None}
 use mathlib.Core.Path.{◌≡◌, refl, sym, ◌∙◌}
 use mathlib.Core.Bool.{Bool, true, false, cond, true≢false}
 use mathlib.Core.List.{List, [], ◌∷◌}
@@ -14,7 +15,7 @@ use Rattle.sheet.specs.Form.{line_of}
 use Rattle.sheet.specs.Rules.{Rules, Stricter, base_rules, earlier_rules, two_operator_rules, sheet_rules}
 use Rattle.sheet.specs.Reading.{most_bytes, ReadingState, trees, first_fault, order_fault, is_full, fault_of, state_after, nothing_read, ReadingOutcome, accepted, refused, read_lines, read_with}
 use Rattle.sheet.specs.declared.Line.{Line}
-use Rattle.sheet.specs.declared.Line.TheVariants.{Group, Operator, Lift, Mark, End, Bad}
+use Rattle.sheet.specs.declared.Line.TheVariants.{Group, Operator, Lift, Mark, End}
 use Rattle.sheet.proofs.SoundLaws.{order_none, none_of, bad_fault, group_none, operator_none}
 use Rattle.sheet.proofs.FormLaws.{Forms, same_form, unknown_group, unknown_operator, forms}
 use Rattle.sheet.proofs.AcceptedLaws.{no_outcome}
@@ -24,20 +25,20 @@ record Passed (n : ℕ) (st : ReadingState) (lines : ℕ) : Type 0 where
   within : length st.entries ≤ n
   counted : st.phase ≡ 0 → length st.entries ≡ lines
 
-passed_next : (rules : Rules) (st : ReadingState) (lines : ℕ) (l : Line) (after : ℕ) → fault_of rules st l ≡ 0 → Passed rules.nodes st lines
+passed_next : (rules : Rules) (st : ReadingState) (lines : ℕ) (l : Option Line) (after : ℕ) → fault_of rules st l ≡ 0 → Passed rules.nodes st lines
     → Passed rules.nodes (state_after st l after) (lines + 1)
-passed_next rules st lines Bad after e P = absurd (bad_fault rules st e)
-passed_next rules st lines (Group g) after e P =
-    let a = group_none rules st g (none_of rules st (Group g) e).1 in
+passed_next rules st lines None after e P = absurd (bad_fault rules st e)
+passed_next rules st lines (Some (Group g)) after e P =
+    let a = group_none rules st g (none_of rules st (Some (Group g)) e).1 in
     let k = length-append st.entries (g ∷ []) in
     record { within = omega (arith, a.0, k); counted = λ z. omega (arith, P.counted z, k) }
-passed_next rules st lines (Operator x) after e P =
-    let a = operator_none rules st x (none_of rules st (Operator x) e).1 in
+passed_next rules st lines (Some (Operator x)) after e P =
+    let a = operator_none rules st x (none_of rules st (Some (Operator x)) e).1 in
     let k = length-append st.entries (x ∷ []) in
     record { within = omega (arith, a.0, k); counted = λ z. omega (arith, P.counted z, k) }
-passed_next rules st lines (Lift p m) after e P = record { within = P.within; counted = λ z. absurd (omega arith) }
-passed_next rules st lines (Mark g) after e P = record { within = P.within; counted = λ z. absurd (omega arith) }
-passed_next rules st lines End after e P = record { within = P.within; counted = λ z. absurd (omega arith) }
+passed_next rules st lines (Some (Lift p m)) after e P = record { within = P.within; counted = λ z. absurd (omega arith) }
+passed_next rules st lines (Some (Mark g)) after e P = record { within = P.within; counted = λ z. absurd (omega arith) }
+passed_next rules st lines (Some End) after e P = record { within = P.within; counted = λ z. absurd (omega arith) }
 
 -- ---- rules and looser ones
 -- what they come to: the same, or the stricter ones refuse the node after their last (5), a group after their last (2), a lift or a
@@ -84,14 +85,14 @@ module _ (few more : Rules) (h : Stricter few more) where
       go false p true q = task refl p q
       go false p false q = alike refl
 
-  faults : (st : ReadingState) (l : Line) → Faults st (fault_of few st l) (fault_of more st l)
+  faults : (st : ReadingState) (l : Option Line) → Faults st (fault_of few st l) (fault_of more st l)
   unfolding fault_of
-  faults st Bad = alike refl
-  faults st (Group g) = tree_line st false _
-  faults st (Operator x) = tree_line st (ltb (length (trees st.entries)) 2) 0
-  faults st (Lift p m) = task_line st _
-  faults st (Mark g) = task_line st _
-  faults st End = alike refl
+  faults st None = alike refl
+  faults st (Some (Group g)) = tree_line st false _
+  faults st (Some (Operator x)) = tree_line st (ltb (length (trees st.entries)) 2) 0
+  faults st (Some (Lift p m)) = task_line st _
+  faults st (Some (Mark g)) = task_line st _
+  faults st (Some End) = alike refl
 
   -- a line with these faults, after which they come to o and p
   line_outcomes : (st : ReadingState) (lines f g : ℕ) (o p : ReadingOutcome) → Passed few.nodes st lines → Faults st f g → (f ≡ 0 → Outcomes few more o p)

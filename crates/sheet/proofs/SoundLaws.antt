@@ -1,4 +1,5 @@
 -- A line without fault leads from a sound state to a sound state.
+use Rattle.std.proofs.Common.{Option, Some, None}
 use mathlib.Core.Path.{◌≡◌, refl, sym, ap, ◌∙◌}
 use mathlib.Core.Bool.{Bool, true, false, not, cond, ◌&&◌, true≢false}
 use mathlib.Core.List.{List, [], ◌∷◌, ◌++◌}
@@ -15,7 +16,7 @@ use Rattle.sheet.specs.Rules.{Rules}
 use Rattle.sheet.specs.Reading.{LiftLine, ReadingState, place, ended, trees, first_fault, form_fault, place_fault, order_fault, is_full, kind_fault, fault_of, entered, state_after, nothing_read}
 use Rattle.sheet.specs.InnerHolding.{InRange, Sound}
 use Rattle.sheet.specs.declared.Line.{Line}
-use Rattle.sheet.specs.declared.Line.TheVariants.{Group, Operator, Lift, Mark, End, Bad}
+use Rattle.sheet.specs.declared.Line.TheVariants.{Group, Operator, Lift, Mark, End}
 use Rattle.sheet.proofs.EntriesLaws.{More, more_group, more_operator}
 
 -- ---- the first of two faults
@@ -49,19 +50,19 @@ order_none phase many place e =
     go false q e = absurd (true≢false e)
 
 -- a line without fault has none of order and none of its kind
-pub none_of : (rules : Rules) (st : ReadingState) (l : Line) → fault_of rules st l ≡ 0 → (order_fault st.phase (length (trees st.entries)) (place l) ≡ 0) × (kind_fault rules st l ≡ 0)
+pub none_of : (rules : Rules) (st : ReadingState) (l : Option Line) → fault_of rules st l ≡ 0 → (order_fault st.phase (length (trees st.entries)) (place l) ≡ 0) × (kind_fault rules st l ≡ 0)
 unfolding fault_of
 none_of rules st l e =
     let o = order_fault st.phase (length (trees st.entries)) (place l) in
     let f = first_fault o (kind_fault rules st l) in
     first_none o (kind_fault rules st l) (first_none (place_fault rules.tasks l) f (first_none (form_fault l) (first_fault (place_fault rules.tasks l) f) e).1).1
 
-pub bad_fault : (rules : Rules) (st : ReadingState) → fault_of rules st Bad ≡ 0 → ⊥
+pub bad_fault : (rules : Rules) (st : ReadingState) → fault_of rules st None ≡ 0 → ⊥
 unfolding fault_of
 bad_fault rules st e = let z : ◌≡◌ {A = ℕ} 2 0 = e in omega arith
 
 -- request 6, "4 covers `I`": with fewer than two trees waiting, every operator has this fault
-pub too_few_trees : (rules : Rules) (st : ReadingState) (o : TreeOperator) → length (trees st.entries) < 2 → kind_fault rules st (Operator (sign o)) ≡ 4
+pub too_few_trees : (rules : Rules) (st : ReadingState) (o : TreeOperator) → length (trees st.entries) < 2 → kind_fault rules st (Some (Operator (sign o))) ≡ 4
 too_few_trees rules st o h = rw (lt-ltb (length (trees st.entries)) 2 h)
 
 -- a tree that is not full has room for a node
@@ -69,13 +70,13 @@ not_full : (rules : Rules) (st : ReadingState) → is_full rules st ≡ false �
 not_full rules st e = omega (arith, leb-false)
 
 -- a tree line without fault has it
-pub group_none : (rules : Rules) (st : ReadingState) (g : ℕ) → kind_fault rules st (Group g) ≡ 0
+pub group_none : (rules : Rules) (st : ReadingState) (g : ℕ) → kind_fault rules st (Some (Group g)) ≡ 0
     → (length st.entries < rules.nodes) × ((not (is_in st.groups g) && leb most_groups (length st.groups)) ≡ false)
 group_none rules st g e =
     let a = off (is_full rules st) 4 _ e in
     (not_full rules st a.0, (off (not (is_in st.groups g) && leb most_groups (length st.groups)) 5 0 a.1).0)
 
-pub operator_none : (rules : Rules) (st : ReadingState) (x : ℕ) → kind_fault rules st (Operator x) ≡ 0
+pub operator_none : (rules : Rules) (st : ReadingState) (x : ℕ) → kind_fault rules st (Some (Operator x)) ≡ 0
     → (length st.entries < rules.nodes) × (2 ≤ length (trees st.entries))
 operator_none rules st x e =
     let a = off (ltb (length (trees st.entries)) 2) 3 _ e in
@@ -112,8 +113,8 @@ module _ (rules : Rules) (st : ReadingState) (S : Sound rules st) where
     one = λ n. absurd (n (omega arith));
   }
 
-  sound_group : (g after : ℕ) → is_group g ≡ true → order_fault st.phase (length (trees st.entries)) 0 ≡ 0 → kind_fault rules st (Group g) ≡ 0
-      → Sound rules (state_after st (Group g) after)
+  sound_group : (g after : ℕ) → is_group g ≡ true → order_fault st.phase (length (trees st.entries)) 0 ≡ 0 → kind_fault rules st (Some (Group g)) ≡ 0
+      → Sound rules (state_after st (Some (Group g)) after)
   sound_group g after r o e =
       let p = (order_none st.phase (length (trees st.entries)) 0 o).0 in
       let a = group_none rules st g e in
@@ -127,8 +128,8 @@ module _ (rules : Rules) (st : ReadingState) (S : Sound rules st) where
       known_more : (g : ℕ) → is_group g ≡ true → with_new st.groups g ≡ collect (collect [] (leaves_in st.entries)) (leaves_in (g ∷ []))
       known_more g r = ap (λ (l : List ℕ). with_new l g) S.known ∙ sym (ap (collect (collect [] (leaves_in st.entries))) (leaves_one g (rw r tt)) ∙ collect_one (collect [] (leaves_in st.entries)) g)
 
-  sound_operator : (x after : ℕ) → InRange (Operator x) → order_fault st.phase (length (trees st.entries)) 0 ≡ 0 → kind_fault rules st (Operator x) ≡ 0
-      → Sound rules (state_after st (Operator x) after)
+  sound_operator : (x after : ℕ) → InRange (Some (Operator x)) → order_fault st.phase (length (trees st.entries)) 0 ≡ 0 → kind_fault rules st (Some (Operator x)) ≡ 0
+      → Sound rules (state_after st (Some (Operator x)) after)
   sound_operator x after r o e =
       let p = (order_none st.phase (length (trees st.entries)) 0 o).0 in
       let a = operator_none rules st x e in
@@ -150,29 +151,29 @@ module _ (rules : Rules) (st : ReadingState) (S : Sound rules st) where
     one = λ n. h;
   }
 
-  pub sound_mark : (g after : ℕ) → order_fault st.phase (length (trees st.entries)) 2 ≡ 0 → kind_fault rules st (Mark g) ≡ 0 → Sound rules (state_after st (Mark g) after)
+  pub sound_mark : (g after : ℕ) → order_fault st.phase (length (trees st.entries)) 2 ≡ 0 → kind_fault rules st (Some (Mark g)) ≡ 0 → Sound rules (state_after st (Some (Mark g)) after)
   sound_mark g after o e = go (is_in st.groups g) (is_in st.marks g) refl refl e
     where
-      go : (a b : Bool) → is_in st.groups g ≡ a → is_in st.marks g ≡ b → ◌≡◌ {A = ℕ} (cond a (cond b 9 0) 8) 0 → Sound rules (state_after st (Mark g) after)
+      go : (a b : Bool) → is_in st.groups g ≡ a → is_in st.marks g ≡ b → ◌≡◌ {A = ℕ} (cond a (cond b 9 0) 8) 0 → Sound rules (state_after st (Some (Mark g)) after)
       go false b p q e = absurd (omega arith)
       go true true p q e = absurd (omega arith)
       go true false p q e =
           sound_over 2 st.start (st.marks ++ (g ∷ [])) st.lifts (one_waits 2 (omega arith) o) (distinct_end st.marks g S.once q)
           (λ x i. end_cases _ st.marks g x i (S.marked x) (λ r. ap (is_in st.groups) r ∙ p))
 
-  pub sound_lift : (p n after : ℕ) → order_fault st.phase (length (trees st.entries)) 1 ≡ 0 → Sound rules (state_after st (Lift p n) after)
+  pub sound_lift : (p n after : ℕ) → order_fault st.phase (length (trees st.entries)) 1 ≡ 0 → Sound rules (state_after st (Some (Lift p n)) after)
   sound_lift p n after o = sound_over 1 st.start st.marks _ (one_waits 1 (omega arith) o) S.once S.marked
 
-  pub sound_end : (after : ℕ) → order_fault st.phase (length (trees st.entries)) 3 ≡ 0 → Sound rules (state_after st End after)
+  pub sound_end : (after : ℕ) → order_fault st.phase (length (trees st.entries)) 3 ≡ 0 → Sound rules (state_after st (Some End) after)
   sound_end after o = sound_over ended st.start st.marks st.lifts (one_waits 3 (omega arith) o) S.once S.marked
 
-  pub sound_next : (l : Line) (after : ℕ) → InRange l → fault_of rules st l ≡ 0 → Sound rules (state_after st l after)
-  sound_next Bad after r e = absurd (bad_fault rules st e)
-  sound_next (Group g) after r e = let z = none_of rules st (Group g) e in sound_group g after r z.0 z.1
-  sound_next (Operator x) after r e = let z = none_of rules st (Operator x) e in sound_operator x after r z.0 z.1
-  sound_next (Lift p n) after r e = sound_lift p n after (none_of rules st (Lift p n) e).0
-  sound_next (Mark g) after r e = let z = none_of rules st (Mark g) e in sound_mark g after z.0 z.1
-  sound_next End after r e = sound_end after (none_of rules st End e).0
+  pub sound_next : (l : Option Line) (after : ℕ) → InRange l → fault_of rules st l ≡ 0 → Sound rules (state_after st l after)
+  sound_next None after r e = absurd (bad_fault rules st e)
+  sound_next (Some (Group g)) after r e = let z = none_of rules st (Some (Group g)) e in sound_group g after r z.0 z.1
+  sound_next (Some (Operator x)) after r e = let z = none_of rules st (Some (Operator x)) e in sound_operator x after r z.0 z.1
+  sound_next (Some (Lift p n)) after r e = sound_lift p n after (none_of rules st (Some (Lift p n)) e).0
+  sound_next (Some (Mark g)) after r e = let z = none_of rules st (Some (Mark g)) e in sound_mark g after z.0 z.1
+  sound_next (Some End) after r e = sound_end after (none_of rules st (Some End) e).0
 
 pub sound_nothing_read : (rules : Rules) → Sound rules nothing_read
 unfolding trees pass leaves_in collect Distinct is_in

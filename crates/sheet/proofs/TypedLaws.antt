@@ -1,5 +1,6 @@
 -- A tree that is typed as tree lines and closed by `E` is a file that reading accepts, with the tree's list and its groups. The proof
 -- goes from the file's end to its front: where the lines behind a tree's lines are accepted, they are with the tree's lines before them.
+use Rattle.std.proofs.Common.{Option, Some}
 use mathlib.Core.Path.{◌≡◌, refl, ◌∙◌}
 use mathlib.Core.Bool.{Bool, true, false, not, cond, ◌&&◌}
 use mathlib.Core.List.{List, [], ◌∷◌, ◌++◌, append_assoc, append-nil}
@@ -39,29 +40,29 @@ unfolding typed line fields join
 typed_short t h = simp length-append (omega (arith, lines_length t))
 
 -- ---- the form of each of its lines
-record Formed (rules : Rules) (word numbers : List ℕ) (l : Line) : Type 0 where
+record Formed (rules : Rules) (word numbers : List ℕ) (l : Option Line) : Type 0 where
   plain : Plain word
   form : form_of rules (fields word numbers) ≡ l
 
-group_formed : (rules : Rules) (g : ℕ) → most_group ≤ rules.last_group → T (is_group g) → Formed rules (letter_g ∷ []) (g ∷ []) (Group g)
+group_formed : (rules : Rules) (g : ℕ) → most_group ≤ rules.last_group → T (is_group g) → Formed rules (letter_g ∷ []) (g ∷ []) (Some (Group g))
 unfolding is_in form_of fields
 group_formed rules g most h = record {
   plain = record { no_tab = refl; no_line_feed = refl };
   form = rw (decimal_digits g, le-leb 1 g (group_least g h), le-leb g rules.last_group (omega (arith, group_most g h)));
 }
 
-operator_formed : (rules : Rules) (o : TreeOperator) → rules.intersections ≡ true → Formed rules (letter_for o ∷ []) [] (Operator (sign o))
+operator_formed : (rules : Rules) (o : TreeOperator) → rules.intersections ≡ true → Formed rules (letter_for o ∷ []) [] (Some (Operator (sign o)))
 unfolding is_in form_of fields
 operator_formed rules union may = record { plain = record { no_tab = refl; no_line_feed = refl }; form = refl }
 operator_formed rules difference may = record { plain = record { no_tab = refl; no_line_feed = refl }; form = refl }
 operator_formed rules intersection may = record { plain = record { no_tab = refl; no_line_feed = refl }; form = rw may }
 
-end_formed : (rules : Rules) → Formed rules (letter_e ∷ []) [] End
+end_formed : (rules : Rules) → Formed rules (letter_e ∷ []) [] (Some End)
 unfolding is_in form_of fields
 end_formed rules = record { plain = record { no_tab = refl; no_line_feed = refl }; form = refl }
 
 -- a line of a form without fault is read, and reading goes on after it
-line_read : {rules : Rules} {word numbers : List ℕ} {l : Line} → Formed rules word numbers l → (st : ReadingState) (n at : ℕ) (rest : List ℕ) → fault_of rules st l ≡ 0
+line_read : {rules : Rules} {word numbers : List ℕ} {l : Option Line} → Formed rules word numbers l → (st : ReadingState) (n at : ℕ) (rest : List ℕ) → fault_of rules st l ≡ 0
     → read_lines rules st n at (split line_feed (line word numbers ++ rest))
     ≡ read_lines rules (state_after st l (at + length (line word numbers))) (n + 1) (at + length (line word numbers)) (split line_feed rest)
 unfolding read_lines line_of line
@@ -75,7 +76,7 @@ abbrev so_far : List ℕ → List ℕ → ℕ → ReadingState
 so_far entries groups at = record { phase = 0; entries = entries; groups = groups; marks = []; start = at; lifts = [] }
 
 module _ (rules : Rules) (entries groups : List ℕ) (at : ℕ) where
-  no_fault_group : (g : ℕ) → length entries < rules.nodes → length (with_new groups g) ≤ most_groups → fault_of rules (so_far entries groups at) (Group g) ≡ 0
+  no_fault_group : (g : ℕ) → length entries < rules.nodes → length (with_new groups g) ≤ most_groups → fault_of rules (so_far entries groups at) (Some (Group g)) ≡ 0
   unfolding fault_of
   no_fault_group g h k = rw (lt-leb rules.nodes (length entries) h) (go (is_in groups g) k)
     where
@@ -83,11 +84,11 @@ module _ (rules : Rules) (entries groups : List ℕ) (at : ℕ) where
       go true k = refl
       go false k = rw (lt-leb most_groups (length groups) (omega (arith, length-append groups (g ∷ []))))
 
-  no_fault_operator : (x : ℕ) (l r : Tree) (ts : List Tree) → length entries < rules.nodes → waiting 0 entries [] ≡ some (r ∷ (l ∷ ts)) → fault_of rules (so_far entries groups at) (Operator x) ≡ 0
+  no_fault_operator : (x : ℕ) (l r : Tree) (ts : List Tree) → length entries < rules.nodes → waiting 0 entries [] ≡ some (r ∷ (l ∷ ts)) → fault_of rules (so_far entries groups at) (Some (Operator x)) ≡ 0
   unfolding fault_of trees
   no_fault_operator x l r ts h e = rw (e, le-ltb (suc (suc (length ts))) 2 (omega arith), lt-leb rules.nodes (length entries) h)
 
-  no_fault_end : (t : Tree) → waiting 0 entries [] ≡ some (t ∷ []) → fault_of rules (so_far entries groups at) End ≡ 0
+  no_fault_end : (t : Tree) → waiting 0 entries [] ≡ some (t ∷ []) → fault_of rules (so_far entries groups at) (Some End) ≡ 0
   unfolding fault_of trees
   no_fault_end t e = rw e
 
@@ -133,7 +134,7 @@ accepts_tree {rules = rules} {end = end} {ts = ts} {entries = entries} {groups =
 
 -- at the end one tree waits, and `E` closes it
 accepts_end : (rules : Rules) (t : Tree) (entries groups : List ℕ) (at : ℕ) → length entries ≤ rules.nodes → length groups ≤ most_groups
-    → Accepts rules (state_after (so_far entries groups at) End at) (t ∷ []) entries groups at (line (letter_e ∷ []) [])
+    → Accepts rules (state_after (so_far entries groups at) (Some End) at) (t ∷ []) entries groups at (line (letter_e ∷ []) [])
 unfolding read_lines split
 accepts_end rules t entries groups at h k = record {
   nodes = h;

@@ -1,4 +1,5 @@
 -- A tree that rules without `I` accept has none: no line adds its number to the entries.
+use Rattle.std.proofs.Common.{Option}
 use mathlib.Core.Path.{◌≡◌, sym, subst, ◌∙◌}
 use mathlib.Core.Bool.{true, false, false≢true, true≢false}
 use mathlib.Core.List.{List, [], ◌∷◌, ◌++◌}
@@ -43,7 +44,7 @@ tree_without (node intersection l r) w = w (in_right (postfix l) _ _ (in_right (
 
 module _ (rules : Rules) (none : rules.intersections ≡ false) (most : rules.last_group ≤ most_group) where
   -- no line adds one
-  abbrev AddsNone : Line → Type 0
+  abbrev AddsNone : Option Line → Type 0
   AddsNone l = (st : ReadingState) (after : ℕ) → Without st.entries → Without (state_after st l after).entries
 
   line_adds : (l : List ℕ) → AddsNone (line_of rules l)

@@ -1,7 +1,9 @@
 pub mod Form
 pub mod Rules
+pub mod Faults
 pub mod Reading
 pub mod Typed
+pub mod InnerFaults
 pub mod InnerHolding
 pub mod InnerLines
 pub mod InnerDrawing

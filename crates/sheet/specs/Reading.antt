@@ -1,6 +1,6 @@
 -- Document 01, "The sheet": what reading answers for any bytes, the first fault first. specs/Form.antt has the forms of the lines.
-use Rattle.std.specs.Prelude.{Bool, not, cond, ◌&&◌, List, [], ◌∷◌, ◌++◌, ℕ, ◌+◌, eqb, leb, ltb, length, replicate}
-use Rattle.std.proofs.Math.Option.{Option, some, none}
+use Rattle.std.specs.Prelude.{Bool, not, cond, ◌&&◌, List, [], ◌∷◌, ◌++◌, ℕ, ◌+◌, eqb, leb, ltb, length, replicate, Option, Some, None, Result, Ok, Err}
+use Rattle.std.proofs.Math.Option.{Option as MathOption, some, none}
 use Rattle.tree.specs.Tree.{Tree, most_groups, is_in, with_new}
 use Rattle.tree.specs.Parse.{waiting}
 use Rattle.tree.specs.Writing.{over}
@@ -9,7 +9,7 @@ use Rattle.text.specs.Line.{line_feed}
 use Rattle.sheet.specs.Form.{line_of}
 use Rattle.sheet.specs.Rules.{Rules, sheet_rules}
 use Rattle.sheet.specs.declared.Line.{Line}
-use Rattle.sheet.specs.declared.Line.TheVariants.{Group, Operator, Lift, Mark, End, Bad}
+use Rattle.sheet.specs.declared.Line.TheVariants.{Group, Operator, Lift, Mark, End}
 use Rattle.sheet.specs.declared.Sheet.{Sheet}
 
 -- "1 (line 0) over 60,000 bytes"
@@ -32,20 +32,20 @@ pub record ReadingState : Type 0 where
   pub lifts : List LiftLine
 
 -- "Tree lines come first, then lifts if any, then marks if any, then one `E`."
-abbrev pub place : Line → ℕ
-place Bad = 0
-place (Group g) = 0
-place (Operator x) = 0
-place (Lift p n) = 1
-place (Mark g) = 2
-place End = 3
+abbrev pub place : Option Line → ℕ
+place None = 0
+place (Some (Group g)) = 0
+place (Some (Operator x)) = 0
+place (Some (Lift p n)) = 1
+place (Some (Mark g)) = 2
+place (Some End) = 3
 
 -- the phase after `E`, higher than any place: "then one `E`", "or after `E`"
 abbrev pub ended : ℕ
 ended = 4
 
 -- no trees where the pass over the entries fails
-abbrev pub or_none : Option (List Tree) → List Tree
+abbrev pub or_none : MathOption (List Tree) → List Tree
 or_none none = []
 or_none (some ts) = ts
 
@@ -58,22 +58,22 @@ abbrev pub first_fault : ℕ → ℕ → ℕ
 first_fault f g = cond (eqb f 0) g f
 
 -- "2 a line of no such form" (for "or a last one without LF" see `read_lines`)
-abbrev pub form_fault : Line → ℕ
-form_fault Bad = 2
-form_fault (Group g) = 0
-form_fault (Operator x) = 0
-form_fault (Lift p n) = 0
-form_fault (Mark g) = 0
-form_fault End = 0
+abbrev pub form_fault : Option Line → ℕ
+form_fault None = 2
+form_fault (Some (Group g)) = 0
+form_fault (Some (Operator x)) = 0
+form_fault (Some (Lift p n)) = 0
+form_fault (Some (Mark g)) = 0
+form_fault (Some End) = 0
 
 -- request 5, where there may be no tasks: "a lift or a mark in it is out of its place"
-abbrev pub place_fault : Bool → Line → ℕ
-place_fault tasks (Lift p n) = cond tasks 0 3
-place_fault tasks (Mark g) = cond tasks 0 3
-place_fault tasks (Group g) = 0
-place_fault tasks (Operator x) = 0
-place_fault tasks End = 0
-place_fault tasks Bad = 0
+abbrev pub place_fault : Bool → Option Line → ℕ
+place_fault tasks (Some (Lift p n)) = cond tasks 0 3
+place_fault tasks (Some (Mark g)) = cond tasks 0 3
+place_fault tasks (Some (Group g)) = 0
+place_fault tasks (Some (Operator x)) = 0
+place_fault tasks (Some End) = 0
+place_fault tasks None = 0
 
 -- "3 a line of good form out of its place, or after `E`; 7 the first line after the tree lines (line 1 if there are none)
 -- when they don't make one tree"; `many` trees wait
@@ -86,16 +86,16 @@ is_full rules st = leb rules.nodes (length st.entries)
 
 -- "then by kind, in this order: 4 `U` or `D` with fewer than two trees waiting; 5 .. node; 6 a ninth different group; 8 a mark of a
 -- group not in the tree; 9 a mark twice"; request 6: "4 covers `I`"
-abbrev pub kind_fault : Rules → ReadingState → Line → ℕ
-kind_fault rules st (Operator x) = cond (ltb (length (trees st.entries)) 2) 4 (cond (is_full rules st) 5 0)
-kind_fault rules st (Group g) = cond (is_full rules st) 5 (cond (not (is_in st.groups g) && leb most_groups (length st.groups)) 6 0)
-kind_fault rules st (Mark g) = cond (is_in st.groups g) (cond (is_in st.marks g) 9 0) 8
-kind_fault rules st (Lift p n) = 0
-kind_fault rules st End = 0
-kind_fault rules st Bad = 0
+abbrev pub kind_fault : Rules → ReadingState → Option Line → ℕ
+kind_fault rules st (Some (Operator x)) = cond (ltb (length (trees st.entries)) 2) 4 (cond (is_full rules st) 5 0)
+kind_fault rules st (Some (Group g)) = cond (is_full rules st) 5 (cond (not (is_in st.groups g) && leb most_groups (length st.groups)) 6 0)
+kind_fault rules st (Some (Mark g)) = cond (is_in st.groups g) (cond (is_in st.marks g) 9 0) 8
+kind_fault rules st (Some (Lift p n)) = 0
+kind_fault rules st (Some End) = 0
+kind_fault rules st None = 0
 
 -- the first fault of a line by these rules; 0 is none
-unfoldable pub fault_of : Rules → ReadingState → Line → ℕ
+unfoldable pub fault_of : Rules → ReadingState → Option Line → ℕ
 fault_of rules st l =
     first_fault (form_fault l) (first_fault (place_fault rules.tasks l)
     (first_fault (order_fault st.phase (length (trees st.entries)) (place l)) (kind_fault rules st l)))
@@ -111,13 +111,13 @@ abbrev pub with_phase : ReadingState → ℕ → List ℕ → List LiftLine → 
 with_phase st phase marks lifts = record { phase = phase; entries = st.entries; groups = st.groups; marks = marks; start = st.start; lifts = lifts }
 
 -- what a line without fault adds, behind what came before it: "the marks in sheet order"; `after` is the byte after it
-abbrev pub state_after : ReadingState → Line → ℕ → ReadingState
-state_after st (Group g) after = entered st g (with_new st.groups g) after
-state_after st (Operator x) after = entered st x st.groups after
-state_after st (Lift p n) after = with_phase st (place (Lift p n)) st.marks (st.lifts ++ (record { position = p; levels = n } ∷ []))
-state_after st (Mark g) after = with_phase st (place (Mark g)) (st.marks ++ (g ∷ [])) st.lifts
-state_after st End after = with_phase st ended st.marks st.lifts
-state_after st Bad after = st
+abbrev pub state_after : ReadingState → Option Line → ℕ → ReadingState
+state_after st (Some (Group g)) after = entered st g (with_new st.groups g) after
+state_after st (Some (Operator x)) after = entered st x st.groups after
+state_after st (Some (Lift p n)) after = with_phase st (place (Some (Lift p n))) st.marks (st.lifts ++ (record { position = p; levels = n } ∷ []))
+state_after st (Some (Mark g)) after = with_phase st (place (Some (Mark g))) (st.marks ++ (g ∷ [])) st.lifts
+state_after st (Some End) after = with_phase st ended st.marks st.lifts
+state_after st None after = st
 
 -- nothing read yet
 abbrev pub nothing_read : ReadingState
@@ -148,13 +148,10 @@ abbrev pub reading : List ℕ → ReadingOutcome
 reading sheet = read_with sheet_rules sheet
 
 -- "Accepted, reading answers by value the tree, the marks in sheet order, the byte where the lifts begin .. and how many there are;
--- entries past the tree's and the marks' ends are 0. Refused, everything but number and line is 0. It writes to no lent memory":
--- `read` is lent the sheet to read only.
-unfoldable pub sheet_of : ReadingOutcome → Sheet
-sheet_of (accepted st) =
+-- entries past the tree's and the marks' ends are 0."
+unfoldable pub sheet_with : ReadingState → Sheet
+sheet_with st =
     record {
-      number = 0;
-      line = 0;
       tree = over st.entries (replicate sheet_rules.nodes 0);
       nodes = length st.entries;
       marks = over st.marks (replicate most_groups 0);
@@ -162,5 +159,9 @@ sheet_of (accepted st) =
       start = st.start;
       lifts = length st.lifts;
     }
-sheet_of (refused number line) =
-    record { number = number; line = line; tree = replicate sheet_rules.nodes 0; nodes = 0; marks = replicate most_groups 0; marked = 0; start = 0; lifts = 0 }
+
+-- "Refused, everything but number and line is 0. It writes to no lent memory": `read` is lent the sheet to read only, and of a refused
+-- one it answers number and line alone.
+unfoldable pub sheet_of : ReadingOutcome → Result Sheet (ℕ × ℕ)
+sheet_of (accepted st) = Ok (sheet_with st)
+sheet_of (refused number line) = Err (number, line)

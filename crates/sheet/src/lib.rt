@@ -1,18 +1,17 @@
 // Reads a sheet.
 #![tactic(auto)]
 
-ghost use Rattle.std.specs.Prelude.{◌≡◌, true, List, [], ◌∷◌, ℕ, ◌+◌, ◌≤◌, ◌<◌, length, replicate};
-ghost use Rattle.std.proofs.Math.Option.{Option};
-ghost use Rattle.text.specs.Inner.{capped};
+ghost use Rattle.std.specs.Prelude.{◌≡◌, true, [], ◌∷◌, ℕ, ◌+◌, ◌<◌, Some};
 ghost use Rattle.text.specs.Parts.{part, split};
 ghost use Rattle.text.specs.Line.{tab};
 ghost use Rattle.sheet.specs.Form.{bare, one_number, two_numbers, form_of, line_of};
 ghost use Rattle.sheet.specs.InnerLines.{line_at};
 ghost use Rattle.sheet.specs.Rules.{with_nodes, with_tasks, sheet_rules, candidate_rules};
-ghost use Rattle.sheet.specs.Reading.{most_bytes, place_fault, order_fault, read_with, reading, refused, sheet_of};
-ghost use Rattle.tree.specs.Tree.{most_groups};
-ghost use Rattle.sheet.specs.InnerHolding.{Holding, Leads, LeadsIf, GivesReading, accepted_sheet};
-ghost use Rattle.sheet.specs.InnerDrawing.{drawing_of, accepted_drawing};
+ghost use Rattle.sheet.specs.Reading.{most_bytes, nothing_read, place_fault, order_fault, read_with, reading, sheet_of};
+ghost use Rattle.sheet.specs.Faults.{fault_number, numbered};
+ghost use Rattle.sheet.specs.InnerFaults.{fault_in, phase_number};
+ghost use Rattle.sheet.specs.InnerHolding.{Holds, Holding, Leads, Gives};
+ghost use Rattle.sheet.specs.InnerDrawing.{drawing_of};
 
 use tree::{MOST_GROUPS, MOST_NODES};
 
@@ -30,126 +29,132 @@ pub const LEAST_LEVELS: u16 = 1;
 
 pub const MOST_LEVELS: u16 = 99;
 
-// 01's numbers of refusal.
-pub const TOO_MANY_BYTES: u8 = 1;
+// 01's faults, the first one first.
+#[derive(Clone, Copy, Debug, PartialEq, Eq)]
+pub enum Fault {
+    // over 60,000 bytes
+    TooManyBytes,
+    // a line of no such form
+    NoForm,
+    // a line of good form out of its place, or after the end
+    OutOfPlace,
+    // an operator with fewer than two trees waiting
+    TooFewTrees,
+    // a node more than the tree may have
+    TooManyNodes,
+    // a ninth different group
+    TooManyGroups,
+    // the first line after the tree lines when they don't make one tree
+    NotOneTree,
+    // a mark of a group not in the tree
+    UnknownMark,
+    // a mark twice
+    MarkTwice,
+    // lines used up without the end
+    NoEnd,
+}
 
-pub const NO_FORM: u8 = 2;
+// 01's number of a fault.
+impl From<Fault> for u8 {
+    ghost from_gives = { λ fault n. n ≡ fault_number fault };
 
-pub const OUT_OF_PLACE: u8 = 3;
+    fn from(fault: Fault) -> u8 {
+        match fault {
+            Fault::TooManyBytes => 1,
+            Fault::NoForm => 2,
+            Fault::OutOfPlace => 3,
+            Fault::TooFewTrees => 4,
+            Fault::TooManyNodes => 5,
+            Fault::TooManyGroups => 6,
+            Fault::NotOneTree => 7,
+            Fault::UnknownMark => 8,
+            Fault::MarkTwice => 9,
+            Fault::NoEnd => 10,
+        }
+    }
+}
 
-pub const TOO_FEW_TREES: u8 = 4;
+// A fault and its line, counted from 1; 0 for a file of too many bytes.
+#[derive(Clone, Copy, Debug, PartialEq, Eq)]
+pub struct Refusal {
+    pub fault: Fault,
+    pub line: usize,
+}
 
-pub const TOO_MANY_NODES: u8 = 5;
-
-pub const TOO_MANY_GROUPS: u8 = 6;
-
-pub const NOT_ONE_TREE: u8 = 7;
-
-pub const UNKNOWN_MARK: u8 = 8;
-
-pub const MARK_TWICE: u8 = 9;
-
-pub const NO_END: u8 = 10;
-
-// A line by its form: a group, an operator as a tree's list has it, a lift's position and levels, a mark, the end, or none.
-#[derive(Clone, Copy)]
+// A line by its form: a group, an operator as a tree's list has it, a lift's position and levels, a mark, or the end.
+#[derive(Clone, Copy, Debug, PartialEq, Eq)]
 pub enum Line {
     Group(u16),
     Operator(u16),
     Lift(u16, u16),
     Mark(u16),
     End,
-    Bad,
 }
 
-// A line, and the byte after it.
+// A line, if it has a form, and the byte after it.
 #[derive(Clone, Copy)]
 pub struct LineAt {
-    pub line: Line,
+    pub line: Option<Line>,
     pub next: usize,
 }
 
 // The line of a kind alone.
-fn bare_line(kind: u8) -> Line
+fn bare_line(kind: u8) -> Option<Line>
     ensures { result ≡ bare sheet_rules kind }
 {
-    if kind == b'U' {
-        return Line::Operator(tree::UNION);
+    match kind {
+        b'U' => Some(Line::Operator(tree::UNION)),
+        b'D' => Some(Line::Operator(tree::DIFFERENCE)),
+        b'I' => Some(Line::Operator(tree::INTERSECTION)),
+        b'E' => Some(Line::End),
+        _ => None,
     }
-    if kind == b'D' {
-        return Line::Operator(tree::DIFFERENCE);
-    }
-    if kind == b'I' {
-        return Line::Operator(tree::INTERSECTION);
-    }
-    if kind == b'E' {
-        return Line::End;
-    }
-    Line::Bad
 }
 
 // The line of a kind and one number.
-fn one_number(kind: u8, n: u16) -> Line
-    ensures { (o : Option ℕ) → n ≡ capped o → result ≡ one_number sheet_rules kind o }
+fn one_number(kind: u8, n: u16) -> Option<Line>
+    ensures { result ≡ one_number sheet_rules kind (Some n) }
 {
-    if kind == b'G' {
-        if tree::is_group(n) {
-            return Line::Group(n);
-        }
-        return Line::Bad;
+    match kind {
+        b'G' if tree::is_group(n) => Some(Line::Group(n)),
+        b'K' if tree::is_group(n) => Some(Line::Mark(n)),
+        _ => None,
     }
-    if kind == b'K' {
-        if tree::is_group(n) {
-            return Line::Mark(n);
-        }
-        return Line::Bad;
-    }
-    Line::Bad
 }
 
 // The line of a kind and two numbers.
-fn two_numbers(kind: u8, p: u16, n: u16) -> Line
-    ensures { (o u : Option ℕ) → p ≡ capped o → n ≡ capped u → result ≡ two_numbers kind o u }
+fn two_numbers(kind: u8, p: u16, n: u16) -> Option<Line>
+    ensures { result ≡ two_numbers kind (Some p) (Some n) }
 {
-    if kind != b'L' {
-        return Line::Bad;
+    if kind == b'L' && p <= MOST_POSITION && LEAST_LEVELS <= n && n <= MOST_LEVELS {
+        return Some(Line::Lift(p, n));
     }
-    if MOST_POSITION < p {
-        return Line::Bad;
-    }
-    if n < LEAST_LEVELS {
-        return Line::Bad;
-    }
-    if MOST_LEVELS < n {
-        return Line::Bad;
-    }
-    Line::Lift(p, n)
+    None
 }
 
 // The line of a kind and what stands behind the tab after it.
-fn fielded_line(kind: u8, rest: &[u8]) -> Line
+fn fielded_line(kind: u8, rest: &[u8]) -> Option<Line>
     ensures { result ≡ form_of sheet_rules (part (kind ∷ []) (split tab rest.now)) }
 {
-    let t = text::find(rest, text::TAB);
-    if t == rest.len() {
-        return one_number(kind, text::number(rest));
+    match text::find(rest, text::TAB) {
+        None => one_number(kind, text::number(rest)?),
+        Some(t) => {
+            let p = text::number(&rest[..t])?;
+            let n = text::number(&rest[t + 1..])?;
+            two_numbers(kind, p, n)
+        }
     }
-    let p = text::number(&rest[..t]);
-    let n = text::number(&rest[t + 1..]);
-    two_numbers(kind, p, n)
 }
 
 // The form of a line, given without its LF.
-fn line_of(bytes: &[u8]) -> Line
+fn line_of(bytes: &[u8]) -> Option<Line>
     ensures { result ≡ line_of sheet_rules bytes.now }
 {
-    if text::find(bytes, text::TAB) != 1 {
-        return Line::Bad;
+    match bytes {
+        [kind] => bare_line(*kind),
+        [kind, text::TAB, rest @ ..] => fielded_line(*kind, rest),
+        _ => None,
     }
-    if bytes.len() == 1 {
-        return bare_line(bytes[0]);
-    }
-    fielded_line(bytes[0], &bytes[2..])
 }
 
 // The line at a byte of a sheet, and the byte after it.
@@ -158,283 +163,228 @@ pub fn line_at(sheet: &[u8], at: usize) -> LineAt
 {
     if sheet.len() <= at {
         return LineAt {
-            line: Line::Bad,
+            line: None,
             next: at,
         };
     }
     let rest = &sheet[at..];
-    let k = text::find(rest, text::LINE_FEED);
-    if k == rest.len() {
-        return LineAt {
-            line: Line::Bad,
-            next: at + k,
-        };
+    match text::find(rest, text::LINE_FEED) {
+        None => LineAt {
+            line: None,
+            next: sheet.len(),
+        },
+        Some(k) => LineAt {
+            line: line_of(&rest[..k]),
+            next: at + k + 1,
+        },
     }
-    let line = line_of(&rest[..k]);
-    LineAt {
-        line: line,
-        next: at + k + 1,
-    }
-}
-
-// How far reading has come. The arrays beside it hold the tree's entries (`nodes`), its different groups (`different`) and
-// the marks (`marked`). `fault` is 0 where there is none; `phase` is the place of the last line, `waiting` the number of
-// trees that wait, `start` the byte after the tree lines.
-#[derive(Clone, Copy)]
-pub struct Progress {
-    pub fault: u8,
-    pub line: usize,
-    pub phase: u8,
-    pub nodes: usize,
-    pub waiting: usize,
-    pub different: usize,
-    pub marked: usize,
-    pub start: usize,
-    pub lifts: usize,
 }
 
 // The places of the lines, in their order, and the phase after the end.
-const TREE: u8 = 0;
-
-const LIFTS: u8 = 1;
-
-const MARKS: u8 = 2;
-
-const END: u8 = 3;
-
-const ENDED: u8 = 4;
-
-// The progress with a line's fault.
-fn faulty(p: Progress, fault: u8) -> Progress
-    requires { p.line ≤ most_bytes }
-    ensures { (result.fault ≡ fault) × (result.line ≡ p.line + 1) }
-{
-    let mut q = p;
-    q.fault = fault;
-    q.line = q.line + 1;
-    q
+#[derive(Clone, Copy, Debug, PartialEq, Eq, PartialOrd, Ord)]
+enum Phase {
+    Tree,
+    Lifts,
+    Marks,
+    End,
+    Ended,
 }
 
-// The fault of a lift or a mark where there may be no tasks (3).
-fn place_fault(line: Line, tasks: bool) -> u8
-    ensures { result ≡ place_fault tasks line }
-{
-    if tasks {
-        return 0;
-    }
-    match line {
-        Line::Lift(_, _) => OUT_OF_PLACE,
-        Line::Mark(_) => OUT_OF_PLACE,
-        Line::Group(_) => 0,
-        Line::Operator(_) => 0,
-        Line::End => 0,
-        Line::Bad => 0,
-    }
-}
-
-// The fault of a line out of its place (3), or first after tree lines that make no tree (7).
-fn order_fault(phase: u8, waiting: usize, place: u8) -> u8
-    ensures { result ≡ order_fault phase waiting place }
-{
-    if place < phase {
-        return OUT_OF_PLACE;
-    }
-    let no_tree = (phase == TREE) & (TREE < place) & (waiting != 1);
-    if no_tree {
-        return NOT_ONE_TREE;
-    }
-    0
-}
-
-// Reads a line with a group.
-fn group_step(p: Progress, g: u16, after: usize, tree: &mut [u16], groups: &mut [u16]) -> Progress
-    requires { (p.line < most_bytes) × ((ms : List ℕ) × Holding p tree.old groups.old ms) }
-    ensures { (ms : List ℕ) → Leads (Line.Group g) after p tree.old groups.old ms
-        result tree.new groups.new ms }
-{
-    let fault = order_fault(p.phase, p.waiting, TREE);
-    if fault != 0 {
-        return faulty(p, fault);
-    }
-    let at = p.nodes;
-    if tree.len() <= at {
-        return faulty(p, TOO_MANY_NODES);
-    }
-    let n = p.different;
-    let mut q = p;
-    q.line = p.line + 1;
-    q.nodes = at + 1;
-    q.waiting = p.waiting + 1;
-    q.start = after; // also where no lift comes
-    if tree::is_in(&groups[..n], g) {
-        tree[at] = g;
-        return q;
-    }
-    if MOST_GROUPS <= n {
-        return faulty(p, TOO_MANY_GROUPS);
-    }
-    tree[at] = g;
-    groups[n] = g;
-    q.different = n + 1;
-    q
-}
-
-// Reads a line with an operator.
-fn operator_step(p: Progress, x: u16, after: usize, tree: &mut [u16]) -> Progress
-    requires { (p.line < most_bytes) × ((gs : List ℕ) × (ms : List ℕ) × Holding p tree.old gs ms) }
-    ensures { (gs ms : List ℕ) → Leads (Line.Operator x) after p tree.old gs ms
-        result tree.new gs ms }
-{
-    let fault = order_fault(p.phase, p.waiting, TREE);
-    if fault != 0 {
-        return faulty(p, fault);
-    }
-    if p.waiting < 2 {
-        return faulty(p, TOO_FEW_TREES);
-    }
-    let at = p.nodes;
-    if tree.len() <= at {
-        return faulty(p, TOO_MANY_NODES);
-    }
-    let mut q = p;
-    q.line = p.line + 1;
-    q.nodes = at + 1;
-    q.waiting = p.waiting - 1;
-    q.start = after;
-    tree[at] = x;
-    q
-}
-
-// Reads a line with a lift.
-fn lift_step(p: Progress) -> Progress
-    requires { (p.line < most_bytes) × (p.lifts ≤ p.line) }
-    ensures { (position levels after : ℕ) (es gs ms : List ℕ) → LeadsIf true (Line.Lift position levels) after p es gs ms result es gs ms }
-{
-    let fault = order_fault(p.phase, p.waiting, LIFTS);
-    if fault != 0 {
-        return faulty(p, fault);
-    }
-    let mut q = p;
-    q.line = p.line + 1;
-    q.phase = LIFTS;
-    q.lifts = p.lifts + 1;
-    q
-}
-
-// Reads a line with a mark.
-fn mark_step(p: Progress, g: u16, groups: &[u16], marks: &mut [u16]) -> Progress
-    requires { (p.line < most_bytes) × ((es : List ℕ) × Holding p es groups.now marks.old) }
-    ensures { (after : ℕ) (es : List ℕ) → LeadsIf true (Line.Mark g) after p es groups.now marks.old
-        result es groups.now marks.new }
-{
-    let fault = order_fault(p.phase, p.waiting, MARKS);
-    if fault != 0 {
-        return faulty(p, fault);
-    }
-    let n = p.different;
-    if tree::is_in(&groups[..n], g) {
-        let m = p.marked;
-        if tree::is_in(&marks[..m], g) {
-            return faulty(p, MARK_TWICE);
-        }
-        let mut q = p;
-        q.line = p.line + 1;
-        q.phase = MARKS;
-        q.marked = m + 1;
-        marks[m] = g;
-        return q;
-    }
-    faulty(p, UNKNOWN_MARK)
-}
-
-// Reads the end.
-fn end_step(p: Progress) -> Progress
-    requires { p.line < most_bytes }
-    ensures { (after : ℕ) (es gs ms : List ℕ) → Leads Line.End after p es gs ms result es gs ms }
-{
-    let fault = order_fault(p.phase, p.waiting, END);
-    if fault != 0 {
-        return faulty(p, fault);
-    }
-    let mut q = p;
-    q.line = p.line + 1;
-    q.phase = ENDED;
-    q
-}
-
-// Reads a line; `after` is the byte after it.
-fn step(
-    p: Progress,
-    line: Line,
-    after: usize,
-    tree: &mut [u16],
-    groups: &mut [u16],
-    marks: &mut [u16],
+// How far reading has come in a file whose tree may have `NODES` nodes: how many lines have been read, and the place of the last;
+// the tree's entries and how many trees wait; its different groups, the marks, the byte after the tree lines and how many lifts there
+// are. `tasks` says whether lifts and marks may stand in the file. Arrays with counts, since reading takes fixed memory only.
+#[derive(Clone, Copy)]
+struct Reader<const NODES: usize> {
     tasks: bool,
-) -> Progress
-    requires { (p.line < most_bytes) × Holding p tree.old groups.old marks.old }
-    ensures { LeadsIf tasks line after p tree.old groups.old marks.old
-        result tree.new groups.new marks.new }
-{
-    let fault = place_fault(line, tasks);
-    if fault != 0 {
-        return faulty(p, fault);
-    }
-    match line {
-        Line::Bad => faulty(p, NO_FORM),
-        Line::Group(g) => group_step(p, g, after, tree, groups),
-        Line::Operator(x) => operator_step(p, x, after, tree),
-        Line::Lift(_, _) => lift_step(p),
-        Line::Mark(g) => mark_step(p, g, groups, marks),
-        Line::End => end_step(p),
-    }
+    line: usize,
+    phase: Phase,
+    tree: [u16; NODES],
+    nodes: usize,
+    waiting: usize,
+    groups: [u16; MOST_GROUPS],
+    different: usize,
+    marks: [u16; MOST_GROUPS],
+    marked: usize,
+    start: usize,
+    lifts: usize,
 }
 
-// Reads the lines of a file into `tree` and `marks`, which hold zeros. The tree may have as many nodes as `tree` has room; `tasks`
-// says whether lifts and marks may stand in the file.
-fn read_lines(sheet: &[u8], tasks: bool, tree: &mut [u16], marks: &mut [u16]) -> Progress
-    requires { (tree.old ≡ replicate (length tree.old) 0) × (marks.old ≡ replicate most_groups 0) }
-    ensures { GivesReading (with_tasks tasks (with_nodes (length tree.old) sheet_rules)) sheet.now result tree.new marks.new }
-{
-    let mut p = Progress {
-        fault: 0,
-        line: 0,
-        phase: TREE,
-        nodes: 0,
-        waiting: 0,
-        different: 0,
-        marked: 0,
-        start: 0,
-        lifts: 0,
-    };
-    if MOST_BYTES < sheet.len() {
-        p.fault = TOO_MANY_BYTES;
-        return p;
-    }
-    let mut groups: [u16; MOST_GROUPS] = [0; MOST_GROUPS];
-    let mut at = 0;
-    while at < sheet.len() {
-        let here = line_at(sheet, at);
-        let line = here.line;
-        at = here.next;
-        p = step(p, line, at, tree, &mut groups, marks, tasks);
-        if p.fault != 0 {
-            return p;
+impl<const NODES: usize> Reader<NODES> {
+    // Nothing read yet.
+    fn new(tasks: bool) -> Reader<NODES>
+        ensures { Holds (with_tasks tasks (with_nodes NODES sheet_rules)) nothing_read result × (result.line ≡ 0) }
+    {
+        Reader {
+            tasks,
+            line: 0,
+            phase: Phase::Tree,
+            tree: [0; NODES],
+            nodes: 0,
+            waiting: 0,
+            groups: [0; MOST_GROUPS],
+            different: 0,
+            marks: [0; MOST_GROUPS],
+            marked: 0,
+            start: 0,
+            lifts: 0,
         }
     }
-    if p.phase == ENDED {
-        return p;
+
+    // The fault of a lift or a mark where there may be no tasks (3).
+    fn place_fault(&self, line: Line) -> Result<(), Fault>
+        ensures { fault_in result ≡ place_fault self.now.tasks (Some line) }
+    {
+        if !self.tasks && matches!(line, Line::Lift(_, _) | Line::Mark(_)) {
+            return Err(Fault::OutOfPlace);
+        }
+        Ok(())
     }
-    faulty(p, NO_END)
+
+    // The fault of a line out of its place (3), or first after tree lines that make no tree (7).
+    fn order_fault(&self, place: Phase) -> Result<(), Fault>
+        ensures { fault_in result ≡ order_fault (phase_number self.now.phase) self.now.waiting (phase_number place) }
+    {
+        if place < self.phase {
+            return Err(Fault::OutOfPlace);
+        }
+        if self.phase == Phase::Tree && Phase::Tree < place && self.waiting != 1 {
+            return Err(Fault::NotOneTree);
+        }
+        Ok(())
+    }
+
+    // Reads a line with a group.
+    fn group(&mut self, g: u16, after: usize) -> Result<(), Fault>
+        requires { Holding self.old }
+        ensures { Leads (Some (Line.Group g)) after self.old.line self.old result self.new }
+    {
+        self.order_fault(Phase::Tree)?;
+        if NODES <= self.nodes {
+            return Err(Fault::TooManyNodes);
+        }
+        if !tree::is_in(&self.groups[..self.different], g) {
+            if MOST_GROUPS <= self.different {
+                return Err(Fault::TooManyGroups);
+            }
+            self.groups[self.different] = g;
+            self.different += 1;
+        }
+        self.tree[self.nodes] = g;
+        self.nodes += 1;
+        self.waiting += 1;
+        self.start = after; // also where no lift comes
+        Ok(())
+    }
+
+    // Reads a line with an operator.
+    fn operator(&mut self, x: u16, after: usize) -> Result<(), Fault>
+        requires { Holding self.old }
+        ensures { Leads (Some (Line.Operator x)) after self.old.line self.old result self.new }
+    {
+        self.order_fault(Phase::Tree)?;
+        if self.waiting < 2 {
+            return Err(Fault::TooFewTrees);
+        }
+        if NODES <= self.nodes {
+            return Err(Fault::TooManyNodes);
+        }
+        self.tree[self.nodes] = x;
+        self.nodes += 1;
+        self.waiting -= 1;
+        self.start = after;
+        Ok(())
+    }
+
+    // Reads a line with a lift.
+    fn lift(&mut self) -> Result<(), Fault>
+        requires { (self.old.tasks ≡ true) × (self.old.lifts < self.old.line) }
+        ensures { (position levels after : ℕ) → Leads (Some (Line.Lift position levels)) after self.old.line self.old result self.new }
+    {
+        self.order_fault(Phase::Lifts)?;
+        self.phase = Phase::Lifts;
+        self.lifts += 1;
+        Ok(())
+    }
+
+    // Reads a line with a mark.
+    fn mark(&mut self, g: u16) -> Result<(), Fault>
+        requires { (self.old.tasks ≡ true) × Holding self.old }
+        ensures { (after : ℕ) → Leads (Some (Line.Mark g)) after self.old.line self.old result self.new }
+    {
+        self.order_fault(Phase::Marks)?;
+        if !tree::is_in(&self.groups[..self.different], g) {
+            return Err(Fault::UnknownMark);
+        }
+        if tree::is_in(&self.marks[..self.marked], g) {
+            return Err(Fault::MarkTwice);
+        }
+        self.marks[self.marked] = g;
+        self.phase = Phase::Marks;
+        self.marked += 1;
+        Ok(())
+    }
+
+    // Reads the end.
+    fn end(&mut self) -> Result<(), Fault>
+        ensures { (after : ℕ) → Leads (Some Line.End) after self.old.line self.old result self.new }
+    {
+        self.order_fault(Phase::End)?;
+        self.phase = Phase::Ended;
+        Ok(())
+    }
+
+    // Reads a line; `after` is the byte after it.
+    fn step(&mut self, line: Option<Line>, after: usize) -> Result<(), Fault>
+        requires { (self.old.line < most_bytes) × Holding self.old }
+        ensures { Leads line after (self.old.line + 1) self.old result self.new }
+    {
+        self.line += 1;
+        let line = line.ok_or(Fault::NoForm)?;
+        self.place_fault(line)?;
+        match line {
+            Line::Group(g) => self.group(g, after),
+            Line::Operator(x) => self.operator(x, after),
+            Line::Lift(_, _) => self.lift(),
+            Line::Mark(g) => self.mark(g),
+            Line::End => self.end(),
+        }
+    }
 }
 
-// What reading answers: the number and the line of the first fault, both 0 where the sheet is accepted; the tree's entries,
-// the marks, the byte where the lifts begin and how many there are. Entries past the ends are 0, and where the sheet is
-// refused everything but number and line is 0.
+// Reads the lines of a file whose tree may have `NODES` nodes; `tasks` says whether lifts and marks may stand in it.
+fn read_lines<const NODES: usize>(file: &[u8], tasks: bool) -> Result<Reader<NODES>, Refusal>
+    ensures { Gives (with_tasks tasks (with_nodes NODES sheet_rules)) (read_with (with_tasks tasks (with_nodes NODES sheet_rules)) file.now) result }
+{
+    if MOST_BYTES < file.len() {
+        return Err(Refusal {
+            fault: Fault::TooManyBytes,
+            line: 0,
+        });
+    }
+    let mut reader = Reader::new(tasks);
+    let mut at = 0;
+    // A `while`: where the next line begins is known only once this one is read, and `line_at` reads lift lines again later.
+    while at < file.len() {
+        let here = line_at(file, at);
+        at = here.next;
+        reader.step(here.line, at).map_err(|fault| Refusal {
+            fault,
+            line: reader.line,
+        })?;
+    }
+    if reader.phase != Phase::Ended {
+        return Err(Refusal {
+            fault: Fault::NoEnd,
+            line: reader.line + 1,
+        });
+    }
+    Ok(reader)
+}
+
+// What reading answers of a sheet that it accepts: the tree's entries, the marks, the byte where the lifts begin and how many there
+// are. Entries past the ends are 0. Arrays with counts, since an answer is fixed memory (no heap).
 #[derive(Clone, Copy)]
 pub struct Sheet {
-    pub number: u8,
-    pub line: usize,
     pub tree: [u16; MOST_SHEET_NODES],
     pub nodes: usize,
     pub marks: [u16; MOST_GROUPS],
@@ -443,94 +393,40 @@ pub struct Sheet {
     pub lifts: usize,
 }
 
-// The answer for a sheet that is refused.
-fn refusal(number: u8, line: usize) -> Sheet
-    ensures { result ≡ sheet_of (refused number line) }
+// Reads a sheet, or gives its first fault. It is lent the sheet to read only, and answers by value.
+pub fn read(sheet: &[u8]) -> Result<Sheet, Refusal>
+    ensures { numbered result ≡ sheet_of (reading sheet.now) }
 {
-    Sheet {
-        number: number,
-        line: line,
-        tree: [0; MOST_SHEET_NODES],
-        nodes: 0,
-        marks: [0; MOST_GROUPS],
-        marked: 0,
-        start: 0,
-        lifts: 0,
-    }
+    let reader = read_lines(sheet, true)?;
+    // The check takes an array into a literal from a variable only.
+    let tree = reader.tree;
+    let marks = reader.marks;
+    Ok(Sheet {
+        tree,
+        nodes: reader.nodes,
+        marks,
+        marked: reader.marked,
+        start: reader.start,
+        lifts: reader.lifts,
+    })
 }
 
-// The answer for a sheet that is accepted.
-fn acceptance(p: Progress, tree: [u16; MOST_SHEET_NODES], marks: [u16; MOST_GROUPS]) -> Sheet
-    ensures { result ≡ accepted_sheet p tree marks }
-{
-    Sheet {
-        number: 0,
-        line: 0,
-        tree: tree,
-        nodes: p.nodes,
-        marks: marks,
-        marked: p.marked,
-        start: p.start,
-        lifts: p.lifts,
-    }
-}
-
-// Reads a sheet. It is lent the sheet to read only, and answers by value.
-pub fn read(sheet: &[u8]) -> Sheet
-    ensures { result ≡ sheet_of (reading sheet.now) }
-{
-    let mut tree: [u16; MOST_SHEET_NODES] = [0; MOST_SHEET_NODES];
-    let mut marks: [u16; MOST_GROUPS] = [0; MOST_GROUPS];
-    let p = read_lines(sheet, true, &mut tree, &mut marks);
-    if p.fault != 0 {
-        return refusal(p.fault, p.line);
-    }
-    acceptance(p, tree, marks)
-}
-
-// What reading a candidate's file answers: the number and the line of the first fault, both 0 where it is accepted, and the entries of
-// the tree in it. Entries past its end are 0, and where the file is refused everything but number and line is 0.
+// What reading answers of a candidate's file that it accepts: the entries of the tree in it. Entries past its end are 0. No `Sheet` of
+// another size: marks and lifts, which may not stand in it, would be four fields without use.
 #[derive(Clone, Copy)]
 pub struct Drawing {
-    pub number: u8,
-    pub line: usize,
     pub tree: [u16; MOST_NODES],
     pub nodes: usize,
 }
 
-// The answer for a candidate's file that is refused.
-fn drawing_refusal(number: u8, line: usize) -> Drawing
-    ensures { result ≡ drawing_of (refused number line) }
+// Reads a candidate's file, or gives its first fault: the same reader, by other rules.
+pub fn read_drawing(file: &[u8]) -> Result<Drawing, Refusal>
+    ensures { numbered result ≡ drawing_of (read_with candidate_rules file.now) }
 {
-    Drawing {
-        number: number,
-        line: line,
-        tree: [0; MOST_NODES],
-        nodes: 0,
-    }
-}
-
-// The answer for a candidate's file that is accepted.
-fn drawing_acceptance(nodes: usize, tree: [u16; MOST_NODES]) -> Drawing
-    ensures { result ≡ accepted_drawing nodes tree }
-{
-    Drawing {
-        number: 0,
-        line: 0,
-        tree: tree,
-        nodes: nodes,
-    }
-}
-
-// Reads a candidate's file: the same reader, by other rules.
-pub fn read_drawing(file: &[u8]) -> Drawing
-    ensures { result ≡ drawing_of (read_with candidate_rules file.now) }
-{
-    let mut tree: [u16; MOST_NODES] = [0; MOST_NODES];
-    let mut marks: [u16; MOST_GROUPS] = [0; MOST_GROUPS];
-    let p = read_lines(file, false, &mut tree, &mut marks);
-    if p.fault != 0 {
-        return drawing_refusal(p.fault, p.line);
-    }
-    drawing_acceptance(p.nodes, tree)
+    let reader = read_lines(file, false)?;
+    let tree = reader.tree;
+    Ok(Drawing {
+        tree,
+        nodes: reader.nodes,
+    })
 }

@@ -7,27 +7,24 @@ fn print(rt: &impl Print, n: usize) -> io::Result<()> {
     print!(rt; " {n}")
 }
 
-// A case's name and what reading answers for it.
+// A case's name and what reading answers for it; 0 stands for what an accepted sheet or a refused one doesn't have.
 fn show(rt: &impl Print, name: &[u8], bytes: &[u8]) -> io::Result<()> {
-    let r = sheet::read(bytes);
     rt.write_all(name)?;
-    rt.write_all(b":")?;
-    print(rt, r.number as usize)?;
-    print(rt, r.line)?;
-    print(rt, r.nodes)?;
-    print(rt, r.marked)?;
-    print(rt, r.start)?;
-    print(rt, r.lifts)?;
-    rt.write_all(b"\n")
+    match sheet::read(bytes) {
+        Ok(read) => println!(rt;
+            ": 0 0 {} {} {} {}",
+            read.nodes, read.marked, read.start, read.lifts
+        ),
+        Err(refusal) => println!(rt; ": {} {} 0 0 0 0", u8::from(refusal.fault), refusal.line),
+    }
 }
 
 // A case in one text: its name, a stroke and the sheet.
 fn case(rt: &impl Print, text: &[u8]) -> io::Result<()> {
-    let k = text::find(text, b'|');
-    if k == text.len() {
-        return Ok(());
+    match text::find(text, b'|') {
+        None => Ok(()),
+        Some(k) => show(rt, &text[..k], &text[k + 1..]),
     }
-    show(rt, &text[..k], &text[k + 1..])
 }
 
 fn wide(x: u16) -> usize {
@@ -47,9 +44,11 @@ fn show_list(rt: &impl Print, name: &[u8], list: &[u16], count: usize) -> io::Re
 pub fn example(rt: &impl Print) -> io::Result<()> {
     let bytes = b"G\t1\nG\t2\nD\nG\t3\nD\nG\t4\nU\nG\t5\nD\nL\t0\t2\nK\t3\nK\t2\nE\n";
     show(rt, b"example", bytes)?;
-    let r = sheet::read(bytes);
-    let tree = r.tree;
-    let marks = r.marks;
+    let Ok(read) = sheet::read(bytes) else {
+        return Ok(());
+    };
+    let tree = read.tree;
+    let marks = read.marks;
     show_list(rt, b"its tree", &tree, 11)?;
     show_list(rt, b"its marks", &marks, 8)
 }
@@ -93,8 +92,10 @@ pub fn trees(rt: &impl Print) -> io::Result<()> {
 pub fn intersections(rt: &impl Print) -> io::Result<()> {
     let bytes = b"G\t1\nG\t2\nI\nE\n";
     show(rt, b"I", bytes)?;
-    let r = sheet::read(bytes);
-    let tree = r.tree;
+    let Ok(read) = sheet::read(bytes) else {
+        return Ok(());
+    };
+    let tree = read.tree;
     show_list(rt, b"its tree", &tree, 4)
 }
 
@@ -168,7 +169,7 @@ fn append(out: &mut [u8], at: usize, bytes: &[u8]) -> usize
     if out.len() - at < bytes.len() {
         return at;
     }
-    text::put_bytes(bytes, out, at)
+    tree::copy(bytes, out, at)
 }
 
 fn repeat(out: &mut [u8], at: usize, bytes: &[u8], times: usize) -> usize

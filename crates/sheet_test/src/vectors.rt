@@ -2,53 +2,39 @@
 ghost use Rattle.std.specs.Prelude.{◌≤◌, ◌<◌, length};
 
 use std::io;
-
-#[derive(Clone, Copy)]
-pub struct Range {
-    pub from: usize,
-    pub to: usize,
-}
+use std::ops::Range;
 
 // Where the next sheet stands.
-fn sheet_after(input: &[u8], at: usize) -> Range
+fn sheet_after(input: &[u8], at: usize) -> Range<usize>
     requires { at < length input.now }
-    ensures { (at < result.to) × (result.from ≤ result.to) × (result.to ≤ length input.now) }
+    ensures { (at < result.end) × (result.start ≤ result.end) × (result.end ≤ length input.now) }
 {
     let rest = &input[at..];
-    let k = text::find(rest, text::LINE_FEED);
-    if k == rest.len() {
-        return Range {
-            from: input.len(),
-            to: input.len(),
-        };
-    }
-    let n = text::number(&rest[..k]) as usize;
+    let Some(k) = text::find(rest, text::LINE_FEED) else {
+        return input.len()..input.len();
+    };
     let from = at + k + 1;
-    if input.len() - from < n {
-        return Range {
-            from: from,
-            to: input.len(),
-        };
-    }
-    Range {
-        from: from,
-        to: from + n,
+    match text::number(&rest[..k]) {
+        Some(n) if usize::from(n) <= input.len() - from => from..from + usize::from(n),
+        _ => from..input.len(),
     }
 }
 
 fn show(rt: &impl Print, bytes: &[u8]) -> io::Result<()> {
-    let r = sheet::read(bytes);
-    println!(rt; "NO\t{}\t{}", r.number, r.line)
+    match sheet::read(bytes) {
+        Ok(_) => println!(rt; "NO\t0\t0"),
+        Err(refusal) => println!(rt; "NO\t{}\t{}", u8::from(refusal.fault), refusal.line),
+    }
 }
 
+// From a sheet to the byte after it.
 fn show_all(rt: &impl Print, input: &[u8]) -> io::Result<()> {
     let mut at = 0;
+    // A `while`: where the next sheet stands is known only from the line before it.
     while at < input.len() {
-        let r = sheet_after(input, at);
-        let from = r.from;
-        let to = r.to;
-        show(rt, &input[from..to])?;
-        at = to;
+        let sheet = sheet_after(input, at);
+        show(rt, &input[sheet.start..sheet.end])?;
+        at = sheet.end;
     }
     Ok(())
 }

@@ -1,40 +1,50 @@
 -- Laws for the code: the rows of a table and of its parts, how many leaves a tree is estimated at, and one turn of the scans.
-use mathlib.Core.Path.{◌≡◌, refl, sym, ap, ap₂, ◌∙◌}
+use Rattle.std.specs.Prelude.{Option, Some, None}
+use mathlib.Core.Path.{◌≡◌, refl, sym, ap, subst, ◌∙◌}
 use mathlib.Core.Bool.{Bool, true, false, not, cond}
-use mathlib.Core.List.{List}
+use mathlib.Core.List.{List, [], ◌∷◌}
 use Prim.Native.Nat.{ℕ, zero, suc, ◌+◌, ◌-◌, ◌*◌, ◌/◌, ◌^◌, ◌<◌, ◌≤◌}
 use native.Mathlib.Nat.{two-pow-succ}
 use native.Mathlib.Omega.{arith}
 use native.Mathlib.Numerals.{add-one}
 use lib.Pow.{pow-add, pow_mono, pow_pos}
 use lib.Dec.{eqb, ltb}
-use lib.ListN.{length, take, length-take}
-use borrow.Author.Rules.{rules}
-use borrow.Author.Tests.{ltb-true, lt-ltb, le-ltb, eq-eqb, ne_eqb}
+use lib.ListN.{length, get_or, take}
+use borrow.Author.Tests.{ltb-true, lt-ltb, le-ltb}
 use Rattle.tree.specs.Tree.{most_groups}
 use Rattle.table.specs.InnerTable.{tabulate}
 use Rattle.table.proofs.TableLaws.{length_tabulate}
 use Rattle.free_tables.specs.InnerSearch.{first_failing}
-use Rattle.free_tables.specs.InnerTables.{Table, half, first_part, second_part, usable, Splits, Parted, table_of}
+use Rattle.free_tables.specs.InnerTables.{Table, half, first_part, second_part, Splits, Parted}
+use Rattle.forms.specs.declared.Row.{Row}
 use Rattle.forms.specs.declared.Form.{Form}
 use Rattle.forms.specs.declared.Form.TheVariants.{Drop, Less, Plus, ReducedPlus, JoinedLess, LessOutside, ReducedUnion, JoinedDifference}
 use Rattle.free_tables.specs.declared.Parts.{Parts}
-use Rattle.splits.specs.InnerSplits.{form_count, form_of, is_drop, allowed_top, first_top, use_below, use_of, first_holder, second_holder, leaves_by, estimate, cost_by, never, candidate_form, candidate_variable, candidate_use, cost, least, choose, split_taken_by, split_taken, Sized}
+use Rattle.splits.specs.InnerSplits.{form_count, form_of, is_drop, allowed_top, first_top, use_below, use_of, first_holder, second_holder, leaves_by, estimate, cost_by, never, candidate_form, candidate_variable, candidate_use, candidate_by, candidate, cost, least, choose, Sized}
 use Rattle.splits.specs.declared.Holder.{Holder}
-use Rattle.splits.specs.declared.Holder.TheVariants.{Absent, Dropped, Held}
-use Rattle.splits.specs.declared.Use.{Use}
+use Rattle.splits.specs.declared.Holder.TheVariants.{Absent}
+use Rattle.splits.specs.declared.Plan.{Plan}
 use Rattle.splits.specs.declared.Split.{Split}
-use Rattle.splits.specs.declared.Use.TheVariants.{No, Plain, First, Second}
+use Rattle.splits.specs.declared.Plan.TheVariants.{Plain}
 
--- code that follows a definition by tests
-pub ruleset tests = (eq-eqb, ne_eqb, lt-ltb, le-ltb, rules)
+-- ---- the forms by number
+pub forms_at : (i : ℕ) → i < form_count → get_or (Drop ∷ Less ∷ Plus ∷ ReducedPlus ∷ JoinedLess ∷ LessOutside ∷ ReducedUnion ∷ JoinedDifference ∷ []) i Drop ≡ form_of i
+forms_at zero h = refl
+forms_at (suc zero) h = refl
+forms_at (suc (suc zero)) h = refl
+forms_at (suc (suc (suc zero))) h = refl
+forms_at (suc (suc (suc (suc zero)))) h = refl
+forms_at (suc (suc (suc (suc (suc zero))))) h = refl
+forms_at (suc (suc (suc (suc (suc (suc zero)))))) h = refl
+forms_at (suc (suc (suc (suc (suc (suc (suc zero))))))) h = refl
+forms_at (suc (suc (suc (suc (suc (suc (suc (suc n)))))))) h = absurd (omega arith)
 
 -- ---- the rows of a table and of its parts
-module _ {on off : List Bool} {n : ℕ} (s : Sized on off (suc n)) where
-  pub half_rows : length on / 2 ≡ 2 ^ n
+module _ {t : Table} {n : ℕ} (s : Sized t (suc n)) where
+  pub half_rows : half t ≡ 2 ^ n
   half_rows = omega (arith, s.rows, two-pow-succ n)
 
-  pub splits : (v : ℕ) → v ≤ n → Splits on off (2 ^ v)
+  pub splits : (v : ℕ) → v ≤ n → Splits t (2 ^ v)
   splits v h =
       let e : v + (n - v) ≡ n = omega arith in
       let p : 2 ^ (v + (n - v)) ≡ 2 ^ n = ap (λ (k : ℕ). 2 ^ k) e in
@@ -44,55 +54,29 @@ module _ {on off : List Bool} {n : ℕ} (s : Sized on off (suc n)) where
         blocks = 2 ^ (n - v);
         some = pow_pos (n - v);
         count = omega (arith, s.rows, two-pow-succ n, pow-add 2 v (n - v));
-        same = s.same;
         most = omega (arith, s.rows);
       }
 
-  pub splits_top : Splits on off (length on / 2)
+  pub splits_top : Splits t (half t)
   splits_top = rw half_rows (splits n (omega arith))
 
   pub below_most : n ≤ most_groups
   below_most = omega (arith, s.most)
 
--- arrays whose first rows are a table of so many variables
-pub record Part (xs ys : List Bool) (count : ℕ) (t : Table) (variables : ℕ) : Type 0 where
-  pub is : table_of (take count xs) (take count ys) ≡ t
-  pub sized : Sized (take count xs) (take count ys) variables
-  pub ons : count ≡ length (take count xs)
-  pub offs : count ≡ length (take count ys)
-  pub in_ons : count ≤ length xs
-  pub in_offs : count ≤ length ys
+-- a part has a variable less
+part_sized : {t : Table} {n : ℕ} (f : ℕ → Row) {xs : List Row} → Sized t (suc n) → xs ≡ tabulate f (half t) 0 → Sized xs n
+part_sized {t} f s p = record { rows = ap length p ∙ length_tabulate f (half t) 0 ∙ half_rows s; most = below_most s }
 
-part : {on off : List Bool} {n : ℕ} (f g : ℕ → Bool) (xs ys : List Bool) → Sized on off (suc n)
-    → take (length on / 2) xs ≡ tabulate f (length on / 2) 0 → take (length on / 2) ys ≡ tabulate g (length on / 2) 0
-    → Part xs ys (length on / 2) (table_of (tabulate f (length on / 2) 0) (tabulate g (length on / 2) 0)) n
-part {on} f g xs ys s p q =
-    let a : length (take (length on / 2) xs) ≡ length on / 2 = ap length p ∙ length_tabulate f (length on / 2) 0 in
-    let b : length (take (length on / 2) ys) ≡ length on / 2 = ap length q ∙ length_tabulate g (length on / 2) 0 in
-    record {
-      is = ap₂ table_of p q;
-      sized = record { rows = a ∙ half_rows s; same = b ∙ sym a; most = below_most s };
-      ons = sym a;
-      offs = sym b;
-      in_ons = omega (arith, length-take (length on / 2) xs);
-      in_offs = omega (arith, length-take (length on / 2) ys);
-    }
-
-module _ {on off : List Bool} {n : ℕ} {form : Form} {step : ℕ} {r : Parts} (s : Sized on off (suc n)) (h : Parted r form (table_of on off) step) where
-  pub part_first : Part r.first.on r.first.off (length on / 2) (first_part form (table_of on off) step) n
+module _ {t : Table} {n : ℕ} {form : Form} {step : ℕ} {r : Parts} (s : Sized t (suc n)) (h : Parted r form t step) where
+  pub first_sized : Sized (take (half t) r.first) n
   unfolding first_part
-  part_first = part _ _ _ _ s h.first.on h.first.off
+  first_sized = part_sized _ s h.first
 
-  pub part_second : Part r.second.on r.second.off (length on / 2) (second_part form (table_of on off) step) n
+  pub second_sized : Sized (take (half t) r.second) n
   unfolding second_part
-  part_second = part _ _ _ _ s h.second.on h.second.off
+  second_sized = part_sized _ s h.second
 
 -- ---- the highest variable
-pub allowed_not : (m : Holder) (form : Form) (t : Table) → usable form t (half t) ≡ false → false ≡ allowed_top m form t
-allowed_not Absent form t e = sym e
-allowed_not Dropped form t e = rw e
-allowed_not Held form t e = rw e
-
 -- the scan for the first form that may
 abbrev pub refused : Holder → Table → ℕ → Bool
 refused m t i = not (allowed_top m (form_of i) t)
@@ -105,22 +89,17 @@ pub refused_is : (m : Holder) (t : Table) (i : ℕ) {form : Form} {r b : Bool} �
 refused_is m t i p q e = ap not (sym (ap (λ (f : Form). allowed_top m f t) p) ∙ sym q ∙ e)
 
 -- ---- a variable below the highest, and any
-pub below_sized : {on off : List Bool} {n : ℕ} (v : ℕ) → Sized on off (suc n) → v < n → (x : ℕ) × Sized on off (suc (suc x)) × (v ≤ x)
+pub below_sized : {t : Table} {n : ℕ} (v : ℕ) → Sized t (suc n) → v < n → (x : ℕ) × Sized t (suc (suc x)) × (v ≤ x)
 below_sized {n = n} v s h =
     let e : suc (suc (n - 1)) ≡ suc n = omega arith in
     (n - 1, rw e s, omega arith)
-
-pub below_not : (m : Holder) (form : Form) (t : Table) (step : ℕ) → usable form t step ≡ false → No ≡ use_below m form t step
-below_not Absent form t step e = rw e
-below_not Dropped form t step e = refl
-below_not Held form t step e = rw e
 
 module _ (m : Holder) (form : Form) (t : Table) (n v : ℕ) where
   pub use_below_top : v < n → use_of m form t n v ≡ use_below m form t (2 ^ v)
   unfolding use_of
   use_below_top h = rw (lt-ltb v n h)
 
-  pub use_at_top : n ≤ v → use_of m form t n v ≡ cond (allowed_top m form t) Plain No
+  pub use_at_top : n ≤ v → use_of m form t n v ≡ cond (allowed_top m form t) (Some Plain) None
   unfolding use_of
   use_at_top h = rw (le-ltb v n h)
 
@@ -157,12 +136,12 @@ pub estimate_none : (k : ℕ) (m : Holder) (t : Table) → k ≡ 0 → 0 ≡ est
 unfolding estimate
 estimate_none k m t e = rw e
 
-pub estimate_one : (m : Holder) (t : Table) (form : Form) (r : ℕ) → form ≡ form_of (first_top m t) → r ≡ leaves_by form 0 0 → r ≡ estimate 1 m t
+pub estimate_one : (m : Holder) (t : Table) (form : Form) (r : ℕ) → form ≡ top_form m t → r ≡ leaves_by form 0 0 → r ≡ estimate 1 m t
 unfolding estimate
 estimate_one m t form r e q = q ∙ ap (λ (f : Form). leaves_by f 0 0) e
 
 -- a table of a variable more
-pub sized_more : {on off : List Bool} {k : ℕ} → Sized on off k → (k ≡ 0 → ⊥) → Sized on off (suc (k - 1))
+pub sized_more : {t : Table} {k : ℕ} → Sized t k → (k ≡ 0 → ⊥) → Sized t (suc (k - 1))
 sized_more {k = k} s h = let e : suc (k - 1) ≡ k = omega arith in rw e s
 
 module _ (k : ℕ) (m : Holder) (t : Table) (form : Form) (h : k ≡ 0 → ⊥) (e : form ≡ top_form m t) where
@@ -188,54 +167,6 @@ estimate_most (suc n) m t =
 pub estimate_small : (k : ℕ) (m : Holder) (t : Table) → k ≤ most_groups → estimate k m t ≤ never
 estimate_small k m t h = let p : 2 ^ k ≤ 2 ^ most_groups = pow_mono h in omega (arith, estimate_most k m t)
 
--- a split that is allowed
-module _ (plan : Use) (form : Form) (t : Table) (n step : ℕ) (h : plan ≡ No → ⊥) where
-  pub cost_is : (a b : ℕ) → a ≡ estimate n (first_holder plan) (first_part form t step) → b ≡ estimate n (second_holder plan) (second_part form t step)
-      → leaves_by form a b ≡ cost_by plan form t n step
-  cost_is a b p q = ap₂ (leaves_by form) p q ∙ go plan h
-    where
-      go : (u : Use) → (u ≡ No → ⊥)
-          → leaves_by form (estimate n (first_holder u) (first_part form t step)) (estimate n (second_holder u) (second_part form t step)) ≡ cost_by u form t n step
-      go No h = absurd (h refl)
-      go Plain h = refl
-      go First h = refl
-      go Second h = refl
-
-  pub cost_drop : (a : ℕ) → is_drop form ≡ true → a ≡ estimate n (first_holder plan) (first_part form t step) → a ≡ cost_by plan form t n step
-  cost_drop a d p = sym (leaves_drop form a _ d) ∙ cost_is a _ p refl
-
--- what is not `No`
-pub plain_is : Plain ≡ No → ⊥
-plain_is e = let z : ◌≡◌ {A = ℕ} 0 1 = cc in omega arith
-
-pub first_is_lem : First ≡ No → ⊥
-first_is_lem e = let z : ◌≡◌ {A = ℕ} 0 1 = cc in omega arith
-
-pub second_is : Second ≡ No → ⊥
-second_is e = let z : ◌≡◌ {A = ℕ} 0 1 = cc in omega arith
-
--- a candidate by what was found of it
-module _ (m : Holder) (t : Table) (n i : ℕ) {plan u : Use} {form : Form} {v : ℕ}
-    (p : u ≡ candidate_use m t n i) (e : u ≡ plan) (q : form ≡ candidate_form i) (w : v ≡ candidate_variable n i) where
-  pub cost_case : cost_by plan form t n (2 ^ v) ≡ cost m t n i
-  unfolding cost
-  cost_case = rw (← e, p, q, w)
-
-  pub split_case : (plan ≡ No → ⊥) → ◌≡◌ {A = Split} (record { form = form; variable = v; plan = u }) (split_taken m t n i)
-  unfolding split_taken
-  split_case h = rw (q, w, ← p, e) (go plan h)
-    where
-      go : (x : Use) → (x ≡ No → ⊥) → ◌≡◌ {A = Split} (record { form = candidate_form i; variable = candidate_variable n i; plan = x }) (split_taken_by x m t n i)
-      go No h = absurd (h refl)
-      go Plain h = refl
-      go First h = refl
-      go Second h = refl
-
-pub split_none : (m : Holder) (t : Table) (n i : ℕ) {u : Use} {form : Form} → u ≡ candidate_use m t n i → u ≡ No → form ≡ top_form m t
-    → ◌≡◌ {A = Split} (record { form = form; variable = n; plan = Plain }) (split_taken m t n i)
-unfolding split_taken
-split_none m t n i p e q = rw (← p, e, q)
-
 pub variable_most : (n i : ℕ) → candidate_variable n i ≤ n
 variable_most n i = go (ltb (i / form_count) n) refl
   where
@@ -243,26 +174,120 @@ variable_most n i = go (ltb (i / form_count) n) refl
     go true e = omega (arith, ltb-true (i / form_count) n e)
     go false e = omega arith
 
+-- a split that is allowed
+cost_below : (plan : Plan) (form : Form) (t : Table) (n step : ℕ) → n ≤ most_groups → cost_by (Some plan) form t n step < never
+cost_below plan form t n step h =
+    let a = estimate n (first_holder plan) (first_part form t step) in
+    let b = estimate n (second_holder plan) (second_part form t step) in
+    let p : 2 ^ n ≤ 2 ^ most_groups = pow_mono h in
+    omega (arith, leaves_most form a b, estimate_most n (first_holder plan) (first_part form t step), estimate_most n (second_holder plan) (second_part form t step))
+
+-- a candidate by what was found of it
+module _ (m : Holder) (t : Table) (n i : ℕ) where
+  module _ {form : Form} {v : ℕ} (q : form ≡ candidate_form i) (w : v ≡ candidate_variable n i) where
+    pub candidate_none : use_of m form t n v ≡ None → None ≡ candidate m t n i
+    unfolding candidate_use
+    candidate_none e = rw (← q, ← w, e)
+
+    pub candidate_some : {plan : Plan} → use_of m form t n v ≡ Some plan → ◌≡◌ {A = Option Split} (Some (record { form = form; variable = v; plan = plan })) (candidate m t n i)
+    unfolding candidate_use
+    candidate_some e = rw (← q, ← w, e) (rw (q, w))
+
+  -- and by what it costs
+  pub cost_none : candidate m t n i ≡ None → cost m t n i ≡ never
+  unfolding cost
+  cost_none = go (candidate_use m t n i)
+    where
+      go : (u : Option Plan) → candidate_by u n i ≡ None → cost_by u (candidate_form i) t n (2 ^ candidate_variable n i) ≡ never
+      go None e = refl
+      go (Some p) e = cc
+
+  pub cost_some : {s : Split} → candidate m t n i ≡ Some s → cost_by (Some s.plan) s.form t n (2 ^ s.variable) ≡ cost m t n i
+  unfolding cost
+  cost_some {s} = go (candidate_use m t n i)
+    where
+      go : (u : Option Plan) → candidate_by u n i ≡ Some s → cost_by (Some s.plan) s.form t n (2 ^ s.variable) ≡ cost_by u (candidate_form i) t n (2 ^ candidate_variable n i)
+      go None e = cc
+      go (Some p) e = cc
+
+  pub cost_small : {s : Split} → n ≤ most_groups → candidate m t n i ≡ Some s → cost m t n i < never
+  cost_small {s} h e = omega (arith, cost_below s.plan s.form t n (2 ^ s.variable) h, cost_some e)
+
+  pub cost_most : n ≤ most_groups → cost m t n i ≤ never
+  cost_most h = go (candidate m t n i) refl
+    where
+      go : (o : Option Split) → candidate m t n i ≡ o → cost m t n i ≤ never
+      go None e = omega (arith, cost_none e)
+      go (Some s) e = omega (arith, cost_small h e)
+
 -- ---- the least number: one turn of the scan
-pub least_start : (f : ℕ → ℕ) → 0 ≡ least f 1
+least_start : (f : ℕ → ℕ) → least f 1 ≡ 0
 unfolding least
 least_start f = go (ltb (f 0) (f 0))
   where
-    go : (b : Bool) → 0 ≡ cond {A = ℕ} b 0 0
+    go : (b : Bool) → cond {A = ℕ} b 0 0 ≡ 0
     go true = refl
     go false = refl
 
-module _ (f : ℕ → ℕ) (i b : ℕ) (e : b ≡ least f i) where
-  least_turn : least f (i + 1) ≡ cond (ltb (f i) (f b)) i b
-  unfolding least
-  least_turn = rw (add-one i, e)
+least_new : (f : ℕ → ℕ) (i : ℕ) → f i < f (least f i) → least f (i + 1) ≡ i
+unfolding least
+least_new f i h = rw (add-one i, lt-ltb (f i) (f (least f i)) h)
 
-  pub least_new : (x y : ℕ) → x ≡ f i → y ≡ f b → x < y → i ≡ least f (i + 1)
-  least_new x y p q h = sym (least_turn ∙ ap (λ (z : Bool). cond z i b) (lt-ltb (f i) (f b) (omega arith)))
+least_old : (f : ℕ → ℕ) (i : ℕ) → f (least f i) ≤ f i → least f (i + 1) ≡ least f i
+unfolding least
+least_old f i h = rw (add-one i, le-ltb (f i) (f (least f i)) h)
 
-  pub least_old : (x y : ℕ) → x ≡ f i → y ≡ f b → y ≤ x → b ≡ least f (i + 1)
-  least_old x y p q h = sym (least_turn ∙ ap (λ (z : Bool). cond z i b) (le-ltb (f i) (f b) (omega arith)))
+-- the leaves after the best split, or more than any tree's where there is none
+abbrev pub LeastIs : Option Split → ℕ → ℕ → Type 0
+LeastIs None leaves c = never ≤ leaves
+LeastIs (Some s) leaves c = leaves ≡ c
 
-pub choose_is : (m : Holder) (t : Table) (n i b : ℕ) → b ≡ least (cost m t n) i → i ≡ form_count * (n + 1) → b ≡ choose m t n
+-- the best of the first i candidates
+pub record Best (m : Holder) (t : Table) (n i : ℕ) (best : Option Split) (leaves : ℕ) : Type 0 where
+  pub first : i ≡ 0 → best ≡ None
+  pub is : 0 < i → best ≡ candidate m t n (least (cost m t n) i)
+  pub least : LeastIs best leaves (cost m t n (least (cost m t n) i))
+
+pub best_start : (m : Holder) (t : Table) (n leaves : ℕ) → never ≤ leaves → Best m t n 0 None leaves
+best_start m t n leaves h = record { first = λ e. refl; is = λ l. absurd (omega arith); least = h }
+
+best_was : (m : Holder) (t : Table) (n i : ℕ) {best : Option Split} {leaves : ℕ} → Best m t n i best leaves → candidate m t n i ≡ None → best ≡ candidate m t n (least (cost m t n) i)
+unfolding least
+best_was m t n zero B e = B.first refl ∙ sym e
+best_was m t n (suc i) B e = B.is (omega arith)
+
+best_is_new : (m : Holder) (t : Table) (n i : ℕ) (best : Option Split) {leaves : ℕ} {s : Split} → n ≤ most_groups → Best m t n i best leaves → candidate m t n i ≡ Some s
+    → cost m t n i < leaves → least (cost m t n) (i + 1) ≡ i
+best_is_new m t n zero best few B e h = least_start (cost m t n)
+best_is_new m t n (suc i) None few B e h = least_new (cost m t n) (suc i) (omega (arith, cost_none m t n (least (cost m t n) (suc i)) (sym (B.is (omega arith))), cost_small m t n (suc i) few e))
+best_is_new m t n (suc i) (Some x) few B e h = least_new (cost m t n) (suc i) (omega (arith, B.least))
+
+module _ (m : Holder) (t : Table) (n i : ℕ) (few : n ≤ most_groups) {leaves : ℕ} where
+  pub best_none : {best : Option Split} → Best m t n i best leaves → candidate m t n i ≡ None → Best m t n (i + 1) best leaves
+  best_none {best} B e =
+      let old = least_old (cost m t n) i (omega (arith, cost_none m t n i e, cost_most m t n (least (cost m t n) i) few)) in
+      record {
+        first = λ z. absurd (omega arith);
+        is = λ z. best_was m t n i B e ∙ ap (candidate m t n) (sym old);
+        least = subst (λ (j : ℕ). LeastIs best leaves (cost m t n j)) (sym old) B.least;
+      }
+
+  pub best_new : {best : Option Split} {s : Split} {c : ℕ} → Best m t n i best leaves → candidate m t n i ≡ Some s → c ≡ cost m t n i → c < leaves → Best m t n (i + 1) (Some s) c
+  best_new {best} B e q h =
+      let new = best_is_new m t n i best few B e (omega arith) in
+      record { first = λ z. absurd (omega arith); is = λ z. sym e ∙ ap (candidate m t n) (sym new); least = q ∙ ap (cost m t n) (sym new) }
+
+  pub best_old : (best : Option Split) {s : Split} {c : ℕ} → Best m t n i best leaves → candidate m t n i ≡ Some s → c ≡ cost m t n i → leaves ≤ c → Best m t n (i + 1) best leaves
+  best_old None B e q h = absurd (omega (arith, B.least, cost_small m t n i few e))
+  best_old (Some x) B e q h =
+      let old = least_old (cost m t n) i (omega (arith, B.least)) in
+      let pos : 0 < i = go i B.first in
+      record { first = λ z. absurd (omega arith); is = λ z. B.is pos ∙ ap (candidate m t n) (sym old); least = B.least ∙ ap (cost m t n) (sym old) }
+    where
+      go : (k : ℕ) → (k ≡ 0 → Some x ≡ None) → 0 < k
+      go zero f = let z = f refl in cc
+      go (suc k) f = omega arith
+
+pub best_all : (m : Holder) (t : Table) (n i : ℕ) {best : Option Split} {leaves : ℕ} → Best m t n i best leaves → i ≡ form_count * (n + 1) → best ≡ candidate m t n (choose m t n)
 unfolding choose
-choose_is m t n i b e q = e ∙ ap (least (cost m t n)) q
+best_all m t n i B e = B.is (omega arith) ∙ ap (λ (k : ℕ). candidate m t n (least (cost m t n) k)) e

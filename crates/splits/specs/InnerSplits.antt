@@ -1,7 +1,7 @@
 -- Which variable a table is split by, and by which form. A table has the variables 0 to n; where the holder of the marked groups is
 -- one of them, it is the highest. What a split may do is tested here; which of the allowed splits is taken (`estimate`, `cost`,
 -- `choose`) decides how small a tree gets and nothing else, and no law speaks of it. No caller has to believe any of this.
-use Rattle.std.specs.Prelude.{◌≡◌, Bool, true, false, not, cond, ◌&&◌, ◌||◌, List, ℕ, zero, suc, ◌+◌, ◌*◌, ◌/◌, ◌%◌, ◌^◌, ◌≤◌, eqb, ltb, length}
+use Rattle.std.specs.Prelude.{◌≡◌, Option, Some, None, Bool, true, false, not, cond, ◌&&◌, ◌||◌, ℕ, zero, suc, ◌+◌, ◌*◌, ◌/◌, ◌%◌, ◌^◌, ◌≤◌, eqb, ltb, length}
 use Rattle.tree.specs.Tree.{most_groups}
 use Rattle.forms.specs.InnerForms.{keeps_by}
 use Rattle.free_tables.specs.InnerSearch.{first_failing}
@@ -10,8 +10,8 @@ use Rattle.forms.specs.declared.Form.{Form}
 use Rattle.forms.specs.declared.Form.TheVariants.{Drop, Less, Plus, ReducedPlus, JoinedLess, LessOutside, ReducedUnion, JoinedDifference}
 use Rattle.splits.specs.declared.Holder.{Holder}
 use Rattle.splits.specs.declared.Holder.TheVariants.{Absent, Dropped, Held}
-use Rattle.splits.specs.declared.Use.{Use}
-use Rattle.splits.specs.declared.Use.TheVariants.{No, Plain, First, Second}
+use Rattle.splits.specs.declared.Plan.{Plan}
+use Rattle.splits.specs.declared.Plan.TheVariants.{Plain, First, Second}
 use Rattle.splits.specs.declared.Split.{Split}
 
 -- ---- the forms by number
@@ -74,33 +74,31 @@ abbrev pub drops_in_first : Form → Table → Bool
 drops_in_first form a = usable Drop a (half a) && (not (starts_with_first form) || some_on (first_part Drop a (half a)))
 
 -- by the parts' tables: the holder stands in a's tree and is dropped in b's, or the other way round
-abbrev pub beside_use : Form → Table → Table → Use
+abbrev pub beside_use : Form → Table → Table → Option Plan
 beside_use form a b =
-    cond (usable Drop b (half b)) (cond (can_hold a) First No)
-    (cond (drops_in_first form a) (cond (can_hold b) Second No) No)
+    cond (usable Drop b (half b)) (cond (can_hold a) (Some First) None)
+    (cond (drops_in_first form a) (cond (can_hold b) (Some Second) None) None)
 
 -- the same by the parts of a table
-abbrev pub split_use : Form → Table → ℕ → Use
+abbrev pub split_use : Form → Table → ℕ → Option Plan
 split_use form t step = beside_use form (first_part form t step) (second_part form t step)
 
 -- the variable of this step
-abbrev pub use_below : Holder → Form → Table → ℕ → Use
-use_below Absent form t step = cond (usable form t step) Plain No
-use_below Dropped form t step = No
-use_below Held form t step = cond (usable form t step) (split_use form t step) No
+abbrev pub use_below : Holder → Form → Table → ℕ → Option Plan
+use_below Absent form t step = cond (usable form t step) (Some Plain) None
+use_below Dropped form t step = None
+use_below Held form t step = cond (usable form t step) (split_use form t step) None
 
--- ---- what a split does with the parts: not allowed; both without the holder; the holder in the first, or in the second
-unfoldable pub use_of : Holder → Form → Table → ℕ → ℕ → Use
-use_of m form t n v = cond (ltb v n) (use_below m form t (2 ^ v)) (cond (allowed_top m form t) Plain No)
+-- ---- what a split does with the parts: none where it is not allowed; both without the holder; the holder in the first, or in the second
+unfoldable pub use_of : Holder → Form → Table → ℕ → ℕ → Option Plan
+use_of m form t n v = cond (ltb v n) (use_below m form t (2 ^ v)) (cond (allowed_top m form t) (Some Plain) None)
 
-abbrev pub first_holder : Use → Holder
-first_holder No = Absent
+abbrev pub first_holder : Plan → Holder
 first_holder Plain = Absent
 first_holder First = Held
 first_holder Second = Dropped
 
-abbrev pub second_holder : Use → Holder
-second_holder No = Absent
+abbrev pub second_holder : Plan → Holder
 second_holder Plain = Absent
 second_holder First = Dropped
 second_holder Second = Held
@@ -128,11 +126,9 @@ estimate (suc n) m t =
 abbrev pub never : ℕ
 never = 100000
 
-abbrev pub cost_by : Use → Form → Table → ℕ → ℕ → ℕ
-cost_by No form t n step = never
-cost_by Plain form t n step = leaves_by form (estimate n Absent (first_part form t step)) (estimate n Absent (second_part form t step))
-cost_by First form t n step = leaves_by form (estimate n Held (first_part form t step)) (estimate n Dropped (second_part form t step))
-cost_by Second form t n step = leaves_by form (estimate n Dropped (first_part form t step)) (estimate n Held (second_part form t step))
+abbrev pub cost_by : Option Plan → Form → Table → ℕ → ℕ → ℕ
+cost_by None form t n step = never
+cost_by (Some plan) form t n step = leaves_by form (estimate n (first_holder plan) (first_part form t step)) (estimate n (second_holder plan) (second_part form t step))
 
 -- the candidates by number: each variable with each form
 abbrev pub candidate_form : ℕ → Form
@@ -141,7 +137,7 @@ candidate_form i = form_of (i % form_count)
 abbrev pub candidate_variable : ℕ → ℕ → ℕ
 candidate_variable n i = cond (ltb (i / form_count) n) (i / form_count) n
 
-unfoldable pub candidate_use : Holder → Table → ℕ → ℕ → Use
+unfoldable pub candidate_use : Holder → Table → ℕ → ℕ → Option Plan
 candidate_use m t n i = use_of m (candidate_form i) t n (candidate_variable n i)
 
 unfoldable pub cost : Holder → Table → ℕ → ℕ → ℕ
@@ -157,18 +153,22 @@ unfoldable pub choose : Holder → Table → ℕ → ℕ
 choose m t n = least (cost m t n) (form_count * (n + 1))
 
 -- ---- the split that is taken: candidate i where it is allowed, and else the highest variable by the first form that may split it
-abbrev pub split_taken_by : Use → Holder → Table → ℕ → ℕ → Split
-split_taken_by No m t n i = record { form = form_of (first_top m t); variable = n; plan = Plain }
-split_taken_by Plain m t n i = record { form = candidate_form i; variable = candidate_variable n i; plan = Plain }
-split_taken_by First m t n i = record { form = candidate_form i; variable = candidate_variable n i; plan = First }
-split_taken_by Second m t n i = record { form = candidate_form i; variable = candidate_variable n i; plan = Second }
+abbrev pub candidate_by : Option Plan → ℕ → ℕ → Option Split
+candidate_by None n i = None
+candidate_by (Some plan) n i = Some (record { form = candidate_form i; variable = candidate_variable n i; plan = plan })
+
+abbrev pub candidate : Holder → Table → ℕ → ℕ → Option Split
+candidate m t n i = candidate_by (candidate_use m t n i) n i
+
+abbrev pub split_or_top : Option Split → Holder → Table → ℕ → Split
+split_or_top None m t n = record { form = form_of (first_top m t); variable = n; plan = Plain }
+split_or_top (Some s) m t n = s
 
 unfoldable pub split_taken : Holder → Table → ℕ → ℕ → Split
-split_taken m t n i = split_taken_by (candidate_use m t n i) m t n i
+split_taken m t n i = split_or_top (candidate m t n i) m t n
 
 -- ---- what the functions say of each other
 -- the rows of a table of so many variables
-pub record Sized (on off : List Bool) (variables : ℕ) : Type 0 where
-  pub rows : length on ≡ 2 ^ variables
-  pub same : length off ≡ length on
+pub record Sized (t : Table) (variables : ℕ) : Type 0 where
+  pub rows : length t ≡ 2 ^ variables
   pub most : variables ≤ most_groups

@@ -1,103 +1,53 @@
 // Which variable a table is split by, and by which form.
 #![tactic(auto)]
 
-ghost use Rattle.std.specs.Prelude.{◌≡◌, ℕ, suc, ◌^◌, ◌≤◌};
-ghost use Rattle.free_tables.specs.InnerTables.{table_of};
+ghost use Rattle.std.specs.Prelude.{MatchOption, Some, ◌≡◌, ℕ, suc, ◌^◌, ◌<◌, ◌≤◌};
 ghost use Rattle.forms.specs.InnerForms.{keeps_by};
-ghost use Rattle.splits.specs.InnerSplits.{form_of, is_drop, keeps_holder, allowed_top, first_top, can_hold, starts_with_first, drops_in_first, beside_use, split_use, use_below, use_of, first_holder, second_holder, leaves_by, estimate, cost_by, never, candidate_variable, candidate_use, cost, choose, split_taken, Sized};
-ghost use Rattle.splits.specs.declared.Use.TheVariants.{No};
+ghost use Rattle.splits.specs.InnerSplits.{form_count, form_of, keeps_holder, allowed_top, first_top, can_hold, starts_with_first, drops_in_first, beside_use, split_use, use_below, use_of, first_holder, second_holder, leaves_by, estimate, cost_by, never, candidate_form, candidate_variable, candidate, choose, split_taken, Sized};
 
-use forms::Form;
+use forms::{Form, Row};
 
-// How many forms there are.
-const FORMS: usize = 8;
-
-// More than any tree's leaves.
-const NEVER: usize = 100000;
+// The forms by number.
+const FORMS: [Form; 8] = [
+    Form::Drop,
+    Form::Less,
+    Form::Plus,
+    Form::ReducedPlus,
+    Form::JoinedLess,
+    Form::LessOutside,
+    Form::ReducedUnion,
+    Form::JoinedDifference,
+];
 
 // Whether the holder of the marked groups is a variable, the highest one, and whether its tree is to stand in the tree built.
-#[derive(Clone, Copy)]
+#[derive(Clone, Copy, Debug, PartialEq, Eq)]
 pub enum Holder {
     Absent,
     Dropped,
     Held,
 }
 
-// What a split does with the parts: not allowed; both without the holder; the holder in the first, or in the second.
-#[derive(Clone, Copy)]
-pub enum Use {
-    No,
+// What a split does with the parts: both without the holder; the holder in the first, or in the second.
+#[derive(Clone, Copy, Debug, PartialEq, Eq)]
+pub enum Plan {
     Plain,
     First,
     Second,
 }
 
 // A split: the form, the variable, and what happens to the holder.
-#[derive(Clone, Copy)]
+#[derive(Clone, Copy, Debug, PartialEq, Eq)]
 pub struct Split {
     pub form: Form,
     pub variable: usize,
-    pub plan: Use,
-}
-
-// The form of a number.
-fn form_of(i: usize) -> Form
-    ensures { result ≡ form_of i }
-{
-    if i == 0 {
-        return Form::Drop;
-    }
-    if i == 1 {
-        return Form::Less;
-    }
-    if i == 2 {
-        return Form::Plus;
-    }
-    if i == 3 {
-        return Form::ReducedPlus;
-    }
-    if i == 4 {
-        return Form::JoinedLess;
-    }
-    if i == 5 {
-        return Form::LessOutside;
-    }
-    if i == 6 {
-        return Form::ReducedUnion;
-    }
-    Form::JoinedDifference
-}
-
-// Whether the form only drops its variable.
-fn is_drop(form: Form) -> bool
-    ensures { result ≡ is_drop form }
-{
-    match form {
-        Form::Drop => true,
-        Form::Less => false,
-        Form::Plus => false,
-        Form::ReducedPlus => false,
-        Form::JoinedLess => false,
-        Form::LessOutside => false,
-        Form::ReducedUnion => false,
-        Form::JoinedDifference => false,
-    }
+    pub plan: Plan,
 }
 
 // Whether a form is a difference whose left operand is a alone.
 fn starts_with_first(form: Form) -> bool
     ensures { result ≡ starts_with_first form }
 {
-    match form {
-        Form::Drop => false,
-        Form::Less => true,
-        Form::Plus => false,
-        Form::ReducedPlus => false,
-        Form::JoinedLess => false,
-        Form::LessOutside => true,
-        Form::ReducedUnion => false,
-        Form::JoinedDifference => false,
-    }
+    matches!(form, Form::Less | Form::LessOutside)
 }
 
 // Whether the form has the holder's tree once, and no left operand of a difference above it is empty: a is some tree, and b.
@@ -106,187 +56,156 @@ fn keeps_by(form: Form, a: bool, b: bool) -> bool
 {
     match form {
         Form::Drop => false,
-        Form::Less => a,
-        Form::Plus => true,
-        Form::ReducedPlus => false, // two leaves
-        Form::JoinedLess => false,
+        Form::ReducedPlus | Form::JoinedLess => false, // two leaves
+        Form::Less | Form::ReducedUnion => a,
         Form::LessOutside => a & b,
-        Form::ReducedUnion => a,
-        Form::JoinedDifference => true,
+        Form::Plus | Form::JoinedDifference => true,
     }
 }
 
 // The same at the highest variable, the holder's.
-fn keeps_holder(on: &[bool], off: &[bool], form: Form) -> bool
-    requires { (n : ℕ) × Sized on.now off.now (suc n) }
-    ensures { result ≡ keeps_holder form (table_of on.now off.now) }
+fn keeps_holder(table: &[Row], form: Form) -> bool
+    requires { (n : ℕ) × Sized table.now (suc n) }
+    ensures { result ≡ keeps_holder form table.now }
 {
-    let count = on.len() / 2;
-    let parts = free_tables::split(on, off, count, form);
-    let first = parts.first;
-    let second = parts.second;
-    let first_on = first.on;
-    let second_on = second.on;
-    let a = free_tables::some_on(&first_on[..count]);
-    let b = free_tables::some_on(&second_on[..count]);
+    let count = table.len() / 2;
+    let parts = free_tables::split(table, count, form);
+    let a = free_tables::some_on(&parts.first[..count]);
+    let b = free_tables::some_on(&parts.second[..count]);
     keeps_by(form, a, b)
 }
 
 // Whether the form may split the highest variable.
-fn allowed_top(on: &[bool], off: &[bool], form: Form, m: Holder) -> bool
-    requires { (n : ℕ) × Sized on.now off.now (suc n) }
-    ensures { result ≡ allowed_top m form (table_of on.now off.now) }
+fn allowed_top(table: &[Row], form: Form, m: Holder) -> bool
+    requires { (n : ℕ) × Sized table.now (suc n) }
+    ensures { result ≡ allowed_top m form table.now }
 {
-    let good = free_tables::usable(on, off, on.len() / 2, form);
-    if good {
-        return match m {
-            Holder::Absent => true,
-            Holder::Dropped => is_drop(form),
-            Holder::Held => keeps_holder(on, off, form),
-        };
+    if !free_tables::usable(table, table.len() / 2, form) {
+        return false;
     }
-    false
+    match m {
+        Holder::Absent => true,
+        Holder::Dropped => form == Form::Drop,
+        Holder::Held => keeps_holder(table, form),
+    }
 }
 
-// The number of the first form that may; `FORMS` if none.
-fn first_top(on: &[bool], off: &[bool], m: Holder) -> usize
-    requires { (n : ℕ) × Sized on.now off.now (suc n) }
-    ensures { result ≡ first_top m (table_of on.now off.now) }
+// The first form that may.
+fn first_top(table: &[Row], m: Holder) -> Option<Form>
+    requires { (n : ℕ) × Sized table.now (suc n) }
+    ensures { MatchOption result (first_top m table.now ≡ form_count) (λ form. (first_top m table.now < form_count) × (form ≡ form_of (first_top m table.now))) }
 {
-    let mut i = 0;
-    while i < FORMS {
-        let form = form_of(i);
-        let good = allowed_top(on, off, form, m);
-        if good {
-            return i;
+    for form in FORMS {
+        if allowed_top(table, form, m) {
+            return Some(form);
         }
-        i += 1;
     }
-    i
+    None
+}
+
+// The same for an estimate, which has a form where none may too.
+fn top_form(table: &[Row], m: Holder) -> Form
+    requires { (n : ℕ) × Sized table.now (suc n) }
+    ensures { result ≡ form_of (first_top m table.now) }
+{
+    first_top(table, m).unwrap_or(Form::JoinedDifference)
 }
 
 // Whether some form may split the holder.
-fn can_hold(on: &[bool], off: &[bool]) -> bool
-    requires { (n : ℕ) × Sized on.now off.now (suc n) }
-    ensures { result ≡ can_hold (table_of on.now off.now) }
+fn can_hold(table: &[Row]) -> bool
+    requires { (n : ℕ) × Sized table.now (suc n) }
+    ensures { result ≡ can_hold table.now }
 {
-    let i = first_top(on, off, Holder::Held);
-    i < FORMS
+    first_top(table, Holder::Held).is_some()
 }
 
 // Whether the holder may be dropped in a's tree.
-fn drops_in_first(on: &[bool], off: &[bool], form: Form) -> bool
-    requires { (n : ℕ) × Sized on.now off.now (suc n) }
-    ensures { result ≡ drops_in_first form (table_of on.now off.now) }
+fn drops_in_first(table: &[Row], form: Form) -> bool
+    requires { (n : ℕ) × Sized table.now (suc n) }
+    ensures { result ≡ drops_in_first form table.now }
 {
-    let count = on.len() / 2;
-    let good = free_tables::usable(on, off, count, Form::Drop);
-    let parts = free_tables::split(on, off, count, Form::Drop);
-    let first = parts.first;
-    let first_on = first.on;
-    let some = free_tables::some_on(&first_on[..count]);
-    let starts = starts_with_first(form);
-    good & (!starts | some)
+    let count = table.len() / 2;
+    if !free_tables::usable(table, count, Form::Drop) {
+        return false;
+    }
+    if !starts_with_first(form) {
+        return true;
+    }
+    let parts = free_tables::split(table, count, Form::Drop);
+    free_tables::some_on(&parts.first[..count])
 }
 
 // In which part's tree the holder stands; it is dropped in the other's.
-fn beside_use(aon: &[bool], aoff: &[bool], bon: &[bool], boff: &[bool], form: Form) -> Use
-    requires { (n : ℕ) × Sized aon.now aoff.now (suc n) × Sized bon.now boff.now (suc n) }
-    ensures { result ≡ beside_use form (table_of aon.now aoff.now) (table_of bon.now boff.now) }
+fn beside_use(a: &[Row], b: &[Row], form: Form) -> Option<Plan>
+    requires { (n : ℕ) × Sized a.now (suc n) × Sized b.now (suc n) }
+    ensures { result ≡ beside_use form a.now b.now }
 {
-    let drops = free_tables::usable(bon, boff, bon.len() / 2, Form::Drop);
-    if drops {
-        let holds = can_hold(aon, aoff);
-        if holds {
-            return Use::First;
-        }
-        return Use::No;
+    if free_tables::usable(b, b.len() / 2, Form::Drop) {
+        if can_hold(a) { Some(Plan::First) } else { None }
+    } else if drops_in_first(a, form) && can_hold(b) {
+        Some(Plan::Second)
+    } else {
+        None
     }
-    let spare = drops_in_first(aon, aoff, form);
-    if spare {
-        let holds = can_hold(bon, boff);
-        if holds {
-            return Use::Second;
-        }
-    }
-    Use::No
 }
 
 // The same by the parts of a table.
-fn split_beside(on: &[bool], off: &[bool], form: Form, v: usize) -> Use
-    requires { (n : ℕ) × Sized on.now off.now (suc (suc n)) × (v ≤ n) }
-    ensures { result ≡ split_use form (table_of on.now off.now) (2 ^ v) }
+fn split_beside(table: &[Row], form: Form, v: usize) -> Option<Plan>
+    requires { (n : ℕ) × Sized table.now (suc (suc n)) × (v ≤ n) }
+    ensures { result ≡ split_use form table.now (2 ^ v) }
 {
-    let count = on.len() / 2;
-    let step = free_tables::power(v);
-    let parts = free_tables::split(on, off, step, form);
-    let first = parts.first;
-    let second = parts.second;
-    let a_on = first.on;
-    let a_off = first.off;
-    let b_on = second.on;
-    let b_off = second.off;
-    beside_use(
-        &a_on[..count],
-        &a_off[..count],
-        &b_on[..count],
-        &b_off[..count],
-        form,
-    )
+    let count = table.len() / 2;
+    let parts = free_tables::split(table, free_tables::power(v), form);
+    beside_use(&parts.first[..count], &parts.second[..count], form)
 }
 
-// What a split by a variable below the highest does.
-fn use_below(on: &[bool], off: &[bool], form: Form, m: Holder, v: usize) -> Use
-    requires { (n : ℕ) × Sized on.now off.now (suc (suc n)) × (v ≤ n) }
-    ensures { result ≡ use_below m form (table_of on.now off.now) (2 ^ v) }
+// What a split by a variable below the highest does, if it is allowed.
+fn use_below(table: &[Row], form: Form, m: Holder, v: usize) -> Option<Plan>
+    requires { (n : ℕ) × Sized table.now (suc (suc n)) × (v ≤ n) }
+    ensures { result ≡ use_below m form table.now (2 ^ v) }
 {
-    let step = free_tables::power(v);
-    let good = free_tables::usable(on, off, step, form);
-    if good {
-        return match m {
-            Holder::Absent => Use::Plain,
-            Holder::Dropped => Use::No,
-            Holder::Held => split_beside(on, off, form, v),
-        };
+    if !free_tables::usable(table, free_tables::power(v), form) {
+        return None;
     }
-    Use::No
+    match m {
+        Holder::Absent => Some(Plan::Plain),
+        Holder::Dropped => None,
+        Holder::Held => split_beside(table, form, v),
+    }
 }
 
-// What a split by any variable does.
-fn use_of(on: &[bool], off: &[bool], n: usize, form: Form, m: Holder, v: usize) -> Use
-    requires { Sized on.now off.now (suc n) }
-    ensures { result ≡ use_of m form (table_of on.now off.now) n v }
+// What a split by any variable does, if it is allowed.
+fn use_of(table: &[Row], n: usize, form: Form, m: Holder, v: usize) -> Option<Plan>
+    requires { Sized table.now (suc n) }
+    ensures { result ≡ use_of m form table.now n v }
 {
     if v < n {
-        return use_below(on, off, form, m, v);
+        use_below(table, form, m, v)
+    } else if allowed_top(table, form, m) {
+        Some(Plan::Plain)
+    } else {
+        None
     }
-    let good = allowed_top(on, off, form, m);
-    if good {
-        return Use::Plain;
-    }
-    Use::No
 }
 
 // What becomes of the holder in the parts.
-pub fn first_holder(plan: Use) -> Holder
+pub fn first_holder(plan: Plan) -> Holder
     ensures { result ≡ first_holder plan }
 {
     match plan {
-        Use::No => Holder::Absent,
-        Use::Plain => Holder::Absent,
-        Use::First => Holder::Held,
-        Use::Second => Holder::Dropped,
+        Plan::Plain => Holder::Absent,
+        Plan::First => Holder::Held,
+        Plan::Second => Holder::Dropped,
     }
 }
 
-pub fn second_holder(plan: Use) -> Holder
+pub fn second_holder(plan: Plan) -> Holder
     ensures { result ≡ second_holder plan }
 {
     match plan {
-        Use::No => Holder::Absent,
-        Use::Plain => Holder::Absent,
-        Use::First => Holder::Dropped,
-        Use::Second => Holder::Held,
+        Plan::Plain => Holder::Absent,
+        Plan::First => Holder::Dropped,
+        Plan::Second => Holder::Held,
     }
 }
 
@@ -299,193 +218,113 @@ fn leaves_by(form: Form, a: usize, b: usize) -> usize
 {
     match form {
         Form::Drop => a,
-        Form::Less => {
-            if a == 0 {
-                return 0;
-            }
-            a + 1 + b
-        }
-        Form::Plus => a + 1 + b,
-        Form::ReducedPlus => {
-            if a == 0 {
-                return 1 + b;
-            }
-            a + 2 + b
-        }
-        Form::JoinedLess => a + 2 + b,
-        Form::LessOutside => {
-            if a == 0 {
-                return 0;
-            }
-            if b == 0 {
-                return a;
-            }
-            a + 1 + b
-        }
-        Form::ReducedUnion => {
-            if a == 0 {
-                return b;
-            }
-            a + 1 + b
-        }
-        Form::JoinedDifference => a + 1 + b,
+        Form::Less | Form::LessOutside if a == 0 => 0,
+        Form::LessOutside if b == 0 => a,
+        Form::ReducedPlus if a == 0 => 1 + b,
+        Form::ReducedUnion if a == 0 => b,
+        Form::ReducedPlus | Form::JoinedLess => a + 2 + b,
+        _ => a + 1 + b,
     }
 }
 
-// The same for one variable, whose parts have none.
-fn estimate_one(on: &[bool], off: &[bool], m: Holder) -> usize
-    requires { Sized on.now off.now 1 }
-    ensures { result ≡ estimate 1 m (table_of on.now off.now) }
-{
-    let i = first_top(on, off, m);
-    let form = form_of(i);
-    leaves_by(form, 0, 0)
-}
-
 // Leaves of a tree for a table of k variables, if always the highest is split by the first form that may.
-fn estimate(on: &[bool], off: &[bool], k: usize, m: Holder) -> usize
-    requires { Sized on.now off.now k }
-    ensures { result ≡ estimate k m (table_of on.now off.now) }
+fn estimate(table: &[Row], k: usize, m: Holder) -> usize
+    requires { Sized table.now k }
+    ensures { result ≡ estimate k m table.now }
 {
     if k == 0 {
         return 0;
     }
+    let form = top_form(table, m);
     if k == 1 {
-        return estimate_one(on, off, m);
+        return leaves_by(form, 0, 0);
     }
-    let i = first_top(on, off, m);
-    let form = form_of(i);
-    let count = on.len() / 2;
-    let parts = free_tables::split(on, off, count, form);
-    let first = parts.first;
-    let a_on = first.on;
-    let a_off = first.off;
-    let a = estimate(&a_on[..count], &a_off[..count], k - 1, Holder::Absent);
-    let drops = is_drop(form);
-    if drops {
+    let count = table.len() / 2;
+    let parts = free_tables::split(table, count, form);
+    let a = estimate(&parts.first[..count], k - 1, Holder::Absent);
+    if form == Form::Drop {
         return a;
     }
-    let second = parts.second;
-    let b_on = second.on;
-    let b_off = second.off;
-    let b = estimate(&b_on[..count], &b_off[..count], k - 1, Holder::Absent);
+    let b = estimate(&parts.second[..count], k - 1, Holder::Absent);
     leaves_by(form, a, b)
 }
 
-// Leaves after a split that is allowed, by these estimates.
-fn leaves_after(on: &[bool], off: &[bool], n: usize, form: Form, v: usize, plan: Use) -> usize
-    requires sized { Sized on.now off.now (suc n) × (v ≤ n) }
-    requires fact { plan ≡ No → ⊥ }
-    ensures { result ≡ cost_by plan form (table_of on.now off.now) n (2 ^ v) }
+// Leaves after a split, by these estimates.
+fn leaves_after(table: &[Row], n: usize, split: Split) -> usize
+    requires { Sized table.now (suc n) × (split.variable ≤ n) }
+    ensures { result ≡ cost_by (Some split.plan) split.form table.now n (2 ^ split.variable) }
 {
-    let count = on.len() / 2;
-    let step = free_tables::power(v);
-    let parts = free_tables::split(on, off, step, form);
-    let first = parts.first;
-    let a_on = first.on;
-    let a_off = first.off;
-    let a = estimate(&a_on[..count], &a_off[..count], n, first_holder(plan));
-    let drops = is_drop(form);
-    if drops {
+    let Split {
+        form,
+        variable,
+        plan,
+    } = split;
+    let count = table.len() / 2;
+    let parts = free_tables::split(table, free_tables::power(variable), form);
+    let a = estimate(&parts.first[..count], n, first_holder(plan));
+    if form == Form::Drop {
         return a;
     }
-    let second = parts.second;
-    let b_on = second.on;
-    let b_off = second.off;
-    let b = estimate(&b_on[..count], &b_off[..count], n, second_holder(plan));
+    let b = estimate(&parts.second[..count], n, second_holder(plan));
     leaves_by(form, a, b)
+}
+
+// The form of a candidate.
+fn candidate_form(i: usize) -> Form
+    ensures { result ≡ candidate_form i }
+{
+    FORMS[i % FORMS.len()]
 }
 
 // The variable of a candidate.
 fn candidate_variable(n: usize, i: usize) -> usize
     ensures { result ≡ candidate_variable n i }
 {
-    let v = i / FORMS;
-    if v < n {
-        return v;
-    }
-    n
+    n.min(i / FORMS.len())
 }
 
-// What a candidate's split does.
-fn candidate_use(on: &[bool], off: &[bool], n: usize, m: Holder, i: usize) -> Use
-    requires { Sized on.now off.now (suc n) }
-    ensures { result ≡ candidate_use m (table_of on.now off.now) n i }
+// A candidate's split, if it is allowed.
+fn candidate(table: &[Row], n: usize, m: Holder, i: usize) -> Option<Split>
+    requires { Sized table.now (suc n) }
+    ensures { result ≡ candidate m table.now n i }
 {
-    let form = form_of(i % FORMS);
-    let v = candidate_variable(n, i);
-    use_of(on, off, n, form, m, v)
+    let form = candidate_form(i);
+    let variable = candidate_variable(n, i);
+    let plan = use_of(table, n, form, m, variable)?;
+    Some(Split {
+        form,
+        variable,
+        plan,
+    })
 }
 
-// Leaves after a candidate's split.
-fn cost_of(on: &[bool], off: &[bool], n: usize, m: Holder, i: usize) -> usize
-    requires { Sized on.now off.now (suc n) }
-    ensures { result ≡ cost m (table_of on.now off.now) n i }
+// The allowed candidate that looks best one split ahead.
+fn choose(table: &[Row], n: usize, m: Holder) -> Option<Split>
+    requires { Sized table.now (suc n) }
+    ensures { result ≡ candidate m table.now n (choose m table.now n) }
 {
-    let form = form_of(i % FORMS);
-    let v = candidate_variable(n, i);
-    let plan = candidate_use(on, off, n, m, i);
-    match plan {
-        Use::No => NEVER,
-        Use::Plain => leaves_after(on, off, n, form, v, Use::Plain),
-        Use::First => leaves_after(on, off, n, form, v, Use::First),
-        Use::Second => leaves_after(on, off, n, form, v, Use::Second),
-    }
-}
-
-// The candidate that looks best one split ahead.
-fn choose(on: &[bool], off: &[bool], n: usize, m: Holder) -> usize
-    requires { Sized on.now off.now (suc n) }
-    ensures { result ≡ choose m (table_of on.now off.now) n }
-{
-    let mut best = 0;
-    let mut least = cost_of(on, off, n, m, 0);
-    let mut i = 1;
-    while i < FORMS * (n + 1) {
-        let here = cost_of(on, off, n, m, i);
-        if here < least {
-            best = i;
-            least = here;
-            i += 1;
-        } else {
-            i += 1;
+    let mut best = None;
+    let mut least = usize::MAX;
+    for i in 0..FORMS.len() * (n + 1) {
+        if let Some(split) = candidate(table, n, m, i) {
+            let leaves = leaves_after(table, n, split);
+            if leaves < least {
+                best = Some(split);
+                least = leaves;
+            }
         }
     }
     best
 }
 
-// The split that is taken: the candidate chosen where it is allowed, and else the highest variable by the first form that may.
-pub fn split_taken(on: &[bool], off: &[bool], n: usize, m: Holder) -> Split
-    requires { Sized on.now off.now (suc n) }
-    ensures { result ≡ split_taken m (table_of on.now off.now) n (choose m (table_of on.now off.now) n) }
+// The split that is taken: the candidate chosen where there is one, and else the highest variable by the first form that may.
+pub fn split_taken(table: &[Row], n: usize, m: Holder) -> Split
+    requires { Sized table.now (suc n) }
+    ensures { result ≡ split_taken m table.now n (choose m table.now n) }
 {
-    let i = choose(on, off, n, m);
-    let form = form_of(i % FORMS);
-    let variable = candidate_variable(n, i);
-    let plan = candidate_use(on, off, n, m, i);
-    match plan {
-        Use::No => {
-            let top = first_top(on, off, m);
-            Split {
-                form: form_of(top),
-                variable: n,
-                plan: Use::Plain,
-            }
-        }
-        Use::Plain => Split {
-            form,
-            variable,
-            plan,
-        },
-        Use::First => Split {
-            form,
-            variable,
-            plan,
-        },
-        Use::Second => Split {
-            form,
-            variable,
-            plan,
-        },
-    }
+    choose(table, n, m).unwrap_or_else(|| Split {
+        form: top_form(table, m),
+        variable: n,
+        plan: Plan::Plain,
+    })
 }

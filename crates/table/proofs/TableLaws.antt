@@ -1,20 +1,23 @@
 -- Fillings and rows are inverse to each other, so a tree over the groups is known by its table:
 -- two trees over these groups are equivalent exactly when their tables agree.
 use mathlib.Core.Path.{◌≡◌, refl, sym, ap, ap₂, fun_ext, ◌∙◌}
-use mathlib.Core.Bool.{Bool, true, false, cond, ◌||◌, true≢false, false≢true}
+use mathlib.Core.Bool.{Bool, true, false, not, cond, ◌||◌, true≢false, false≢true}
 use mathlib.Core.List.{List, [], ◌∷◌, ◌++◌}
-use Prim.Native.Nat.{ℕ, zero, suc, ◌+◌, ◌*◌, ◌/◌, ◌%◌, ◌^◌, ◌<◌, ◌≤◌}
-use native.Mathlib.Nat.{mul_assoc, mul_comm, pow-suc, div-one}
+use Prim.Native.Nat.{ℕ, zero, suc, ◌+◌, ◌*◌, ◌/◌, ◌%◌, ◌^◌, min, ◌<◌, ◌≤◌}
+use native.Mathlib.Nat.{mul_assoc, mul_comm, pow-suc, div-one, div-eq_of_lt}
 use native.Mathlib.Omega.{arith}
 use lib.Pow.{pow_mono, shr-shr}
-use lib.Dec.{eqb}
-use borrow.Author.Tests.{eqb-true, eqb-false, eq-eqb, ne_eqb}
-use lib.ListN.{length, get_or, drop, drop_of_length-le}
+use lib.Dec.{eqb, leb, ltb}
+use borrow.Author.Tests.{eqb-true, eqb-false, eq-eqb, ne_eqb, leb-true, leb-false, lt-ltb}
+use lib.ListN.{length, get_or}
+use Rattle.std.specs.Prelude.{Some, None, ◌==◌}
+use Rattle.std.specs.Option.{unwrap_or}
+use Rattle.std.specs.List.{position, position_or_len}
+use Rattle.std.proofs.lemmas.Bool.Decides.{nat_tests}
 use Rattle.tree.specs.Tree.{Tree, selects, Over, Equivalent, is_in, most_groups}
 use Rattle.tree.specs.InnerGroups.{Distinct}
 use Rattle.tree.proofs.TreeLaws.{selects_agree, selects_nothing, equivalent_selects, selects_equivalent}
 use Rattle.tree.proofs.GroupLaws.{is_in_here, in_later}
-use Rattle.tree.proofs.PassLaws.{here}
 use Rattle.table.specs.InnerTable.{row_count, filling, value_at, tabulate, table, IsPlace}
 
 -- the row of a filling v: its bit k is 1 where v has group k of the list in
@@ -104,16 +107,16 @@ pub selects_row : {T : ℕ → Bool} (gs : List ℕ) (t : Tree) → Tabled T gs 
 selects_row gs t tabled over v =
     selects_agree (is_in gs) v (filling gs (row_of v gs)) (λ g e. sym (filling_row v gs g e)) t over ∙ sym (tabled.rows (row_of v gs) (row_below v gs))
 
-pub length_tabulate : (f : ℕ → Bool) (n i : ℕ) → length (tabulate f n i) ≡ n
+pub length_tabulate : {A : Type 0} (f : ℕ → A) (n i : ℕ) → length (tabulate f n i) ≡ n
 unfolding tabulate
 length_tabulate f zero i = refl
 length_tabulate f (suc n) i = ap suc (length_tabulate f n (suc i))
 
-pub tabulate_at : (f : ℕ → Bool) (n i j : ℕ) → j < n → get_or (tabulate f n i) j false ≡ f (i + j)
+pub tabulate_at : {A : Type 0} (f : ℕ → A) (n i j : ℕ) (d : A) → j < n → get_or (tabulate f n i) j d ≡ f (i + j)
 unfolding tabulate
-tabulate_at f zero i j h = absurd (omega arith)
-tabulate_at f (suc n) i zero h = ap f (omega arith)
-tabulate_at f (suc n) i (suc j) h = tabulate_at f n (suc i) j (omega arith) ∙ ap f (omega arith)
+tabulate_at f zero i j d h = absurd (omega arith)
+tabulate_at f (suc n) i zero d h = ap f (omega arith)
+tabulate_at f (suc n) i (suc j) d h = tabulate_at f n (suc i) j d (omega arith) ∙ ap f (omega arith)
 
 pub length_table : (gs : List ℕ) (t : Tree) → length (table gs t) ≡ row_count
 unfolding table
@@ -121,7 +124,7 @@ length_table gs t = length_tabulate (value_at gs t) row_count 0
 
 pub table_at : (gs : List ℕ) (t : Tree) (i : ℕ) → i < row_count → get_or (table gs t) i false ≡ value_at gs t i
 unfolding table
-table_at gs t i h = tabulate_at (value_at gs t) row_count 0 i h ∙ ap (value_at gs t) (omega arith)
+table_at gs t i h = tabulate_at (value_at gs t) row_count 0 i false h ∙ ap (value_at gs t) (omega arith)
 
 -- at most eight groups have at most 256 rows
 pub rows_most : (k : ℕ) → k ≤ most_groups → 2 ^ k ≤ row_count
@@ -143,30 +146,37 @@ table_law gs t u h p q = record {
       ∙ sym (selects_row gs u (record { rows = λ i l. table_at gs u i (omega (arith, rows_most (length gs) h)) }) q v));
 }
 
--- ---- the search for a group's place
-module _ (gs : List ℕ) (g : ℕ) where
-  -- a row says of the group what its bits from i on say of it among the groups from i on
-  abbrev pub Past : ℕ → Type 0
-  Past i = (row : ℕ) → filling (drop i gs) (row / 2 ^ i) g ≡ filling gs row g
+-- ---- the search for a group's place: among how many numbers it is not, before the first that is it
+abbrev first : List ℕ → ℕ → ℕ
+first gs g = position_or_len (λ x. x == g) gs
 
-  pub past_none : Past 0
-  past_none row = ap (λ (bits : ℕ). filling gs bits g) (div-one row)
+filling_first : (gs : List ℕ) (g row : ℕ) → filling gs row g ≡ cond (ltb (first gs g) (length gs)) (eqb (row / 2 ^ first gs g % 2) 1) false
+unfolding filling
+filling_first [] g row = refl
+filling_first (x ∷ gs) g row = go (eqb x g) refl (filling_first gs g (row / 2))
+  where
+    past : (m n : ℕ) → ltb (1 + m) (suc n) ≡ ltb m n
+    past m n = grind (arith, nat_tests)
 
-  pub past_more : (i : ℕ) → i < length gs → (g ≡ get_or gs i 0 → ⊥) → Past i → Past (i + 1)
-  unfolding filling
-  past_more i h n p row = rw (← shr-shr row i 1) (rw (here gs i h, ne_eqb g (get_or gs i 0) n) at (p row))
+    go : (b : Bool) → eqb x g ≡ b → filling gs (row / 2) g ≡ cond (ltb (first gs g) (length gs)) (eqb (row / 2 / 2 ^ first gs g % 2) 1) false
+        → cond (eqb g x) (eqb (row % 2) 1) (filling gs (row / 2) g)
+        ≡ cond (ltb (cond (not b) (1 + first gs g) 0) (suc (length gs))) (eqb (row / 2 ^ cond (not b) (1 + first gs g) 0 % 2) 1) false
+    go true e ih = rw (eq-eqb g x (sym (eqb-true x g e)), div-one row, lt-ltb 0 (suc (length gs)) (omega arith))
+    go false e ih = rw (ne_eqb g x (λ q. eqb-false x g e (sym q)), ih, shr-shr row 1 (first gs g), past (first gs g) (length gs))
 
-  pub place_here : (i : ℕ) → i < length gs → i < most_groups → g ≡ get_or gs i 0 → Past i → IsPlace gs g i
-  unfolding filling
-  place_here i h l e p = record { small = omega arith; says = λ row r. rw (here gs i h, eq-eqb g (get_or gs i 0) e) at (p row) }
+-- that place, or the bit after the last where it is beyond a row's bits or there is none
+pub place_is : (gs : List ℕ) (g : ℕ) → IsPlace gs g (min (unwrap_or (position (λ x. x == g) gs) most_groups) most_groups)
+place_is gs g = go (ltb (first gs g) (length gs)) refl
+  where
+    far : (n row : ℕ) → most_groups ≤ n → row < row_count → row / 2 ^ n ≡ 0
+    far n row h r = let p : 2 ^ 8 ≤ 2 ^ n = pow_mono h in div-eq_of_lt (omega arith)
 
-  -- no row has the bit after the last
-  no_place : ((row : ℕ) → row < row_count → filling gs row g ≡ false) → IsPlace gs g most_groups
-  no_place f = record { small = omega arith; says = λ row h. ne_eqb (row / 256 % 2) 1 (λ e. omega arith) ∙ sym (f row h) }
+    near : (n row : ℕ) → row < row_count → row / 2 ^ min n most_groups ≡ row / 2 ^ n
+    near n row r = elim (leb n most_groups) as (λ b. leb n most_groups ≡ b → row / 2 ^ min n most_groups ≡ row / 2 ^ n) [
+      | true ↦ λ e. let l = leb-true n most_groups e in let m : min n most_groups ≡ n = omega arith in rw m
+      | false ↦ λ e. let l = leb-false n most_groups e in let m : min n most_groups ≡ most_groups = omega arith in rw (m, far most_groups row (omega arith) r, far n row (omega arith) r)
+    ] refl
 
-  pub place_end : (i : ℕ) → length gs ≤ i → Past i → IsPlace gs g most_groups
-  unfolding filling
-  place_end i h p = no_place (λ row r. sym (rw (drop_of_length-le gs h) at (p row)))
-
-  pub place_last : (i : ℕ) → i ≡ most_groups → Past i → IsPlace gs g most_groups
-  place_last i e p = no_place (λ row r. let z : row / 256 ≡ 0 = omega arith in sym (rw (e, z) at (p row)) ∙ filling_zero (drop most_groups gs) g)
+    go : (b : Bool) → ltb (first gs g) (length gs) ≡ b → IsPlace gs g (min (unwrap_or (cond b (Some (first gs g)) None) most_groups) most_groups)
+    go true e = record { small = omega arith; says = λ row r. rw (filling_first gs g row, e, near (first gs g) row r) }
+    go false e = record { small = omega arith; says = λ row r. rw (filling_first gs g row, e, far most_groups row (omega arith) r) }

@@ -16,7 +16,7 @@ abbrev pub value_at : List ℕ → Tree → ℕ → Bool
 value_at gs t i = selects (filling gs i) t
 
 -- f i, f (i + 1) .. : n values
-unfoldable pub tabulate : (ℕ → Bool) → ℕ → ℕ → List Bool
+unfoldable pub tabulate : {A : Type 0} → (ℕ → A) → ℕ → ℕ → List A
 tabulate f zero i = []
 tabulate f (suc n) i = f i ∷ tabulate f n (suc i)
 

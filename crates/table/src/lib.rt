@@ -1,30 +1,22 @@
 // The truth table of a tree over a list of groups.
 #![tactic(auto)]
 
-ghost use Rattle.std.specs.Prelude.{◌≡◌, List, ℕ, ◌≤◌, ◌<◌, length, get_or};
+ghost use Rattle.std.specs.Prelude.{IfSome, ◌≡◌, List, ℕ, ◌≤◌, ◌<◌, length, get_or};
 ghost use Rattle.tree.specs.Tree.{Operator, union, sign, Tree, most_nodes, postfix, apply};
 ghost use Rattle.table.specs.InnerTable.{row_count, value_at, table, Listed, IsPlace, ArePlaces};
 
 pub const ROWS: usize = 256;
 
-// The bit after the last that a row has.
-const NO_PLACE: u8 = tree::MOST_GROUPS as u8;
+// The bit after the last that a row has. It is 0 in every row, as a group that is not listed is in none: with an Option in its place
+// each row would ask again.
+const NO_PLACE: usize = tree::MOST_GROUPS;
 
 // The bit of a row that says whether the group is in; for a group that is not listed, a bit that no row has.
 fn place(groups: &[u16], g: u16) -> u8
     ensures { IsPlace groups.now g result }
 {
-    let mut i: u8 = 0;
-    while i < NO_PLACE {
-        if groups.len() <= i as usize {
-            return NO_PLACE;
-        }
-        if g == groups[i as usize] {
-            return i;
-        }
-        i += 1;
-    }
-    NO_PLACE
+    let place = groups.iter().position(|x| *x == g).unwrap_or(NO_PLACE);
+    place.min(NO_PLACE) as u8
 }
 
 // The places of the tree's leaves, entry by entry: looked up once, before the rows. (An operator's entry has one too, which nothing
@@ -34,10 +26,8 @@ fn places(list: &[u16], groups: &[u16]) -> [u8; tree::MOST_NODES]
     ensures { ArePlaces list.now groups.now result }
 {
     let mut places = [0u8; tree::MOST_NODES];
-    let mut i = 0;
-    while i < list.len() {
-        places[i] = place(groups, list[i]);
-        i += 1;
+    for (i, x) in list.iter().enumerate() {
+        places[i] = place(groups, *x);
     }
     places
 }
@@ -49,22 +39,17 @@ fn combine(x: u16, a: bool, b: bool) -> bool
     (a & (b == (x == tree::INTERSECTION))) | (b & (x == tree::UNION))
 }
 
-// The operator at an index of the list; 0 where the list is over or has a leaf there.
-fn operator_at(list: &[u16], i: usize) -> u16
-    ensures { (result ≡ 0 → ⊥) → (i < length list.now) × (sign union ≤ result) × (result ≡ get_or list.now i 0) }
+// The operator at an index of the list, if there is one.
+fn operator_at(list: &[u16], i: usize) -> Option<u16>
+    ensures { IfSome result (λ x. (i < length list.now) × (sign union ≤ x) × (x ≡ get_or list.now i 0)) }
 {
-    if list.len() <= i {
-        return 0;
-    }
-    let x = list[i];
-    if x < tree::UNION {
-        return 0;
-    }
-    x
+    list.get(i).copied().filter(|x| tree::UNION <= *x)
 }
 
 // The tree's value at a row, from the row's bits. `value` is the latest operand's; the values of the operands that wait below it
-// stand in `waiting`, from index 1 on. A leaf that is a right operand never waits.
+// stand in `waiting`, from index 1 on, with their number beside it (no heap). A leaf that is a right operand never waits, so a turn
+// takes one entry or two, and the index is counted by hand: a `for` in which each leaf waits was tried and is slower
+// (docs/DECISIONS.md, Speed).
 fn eval(list: &[u16], places: &[u8; tree::MOST_NODES], row: usize) -> bool
     requires { Listed list.now × (row < row_count) × ((groups : List ℕ) × ArePlaces list.now groups places.now) }
     ensures { (t : Tree) (groups : List ℕ) → list.now ≡ postfix t → ArePlaces list.now groups places.now
@@ -78,15 +63,14 @@ fn eval(list: &[u16], places: &[u8; tree::MOST_NODES], row: usize) -> bool
         let x = list[i];
         if x < tree::UNION {
             let leaf = (row >> places[i]) % 2 == 1;
-            let next = operator_at(list, i + 1);
-            if next == 0 {
+            if let Some(next) = operator_at(list, i + 1) {
+                value = combine(next, value, leaf);
+                i += 2;
+            } else {
                 waiting[top] = value;
                 value = leaf;
                 top += 1;
                 i += 1;
-            } else {
-                value = combine(next, value, leaf);
-                i += 2;
             }
         } else {
             top -= 1;
@@ -104,11 +88,8 @@ pub fn table(list: &[u16], groups: &[u16]) -> [bool; ROWS]
 {
     let places = places(list, groups);
     let mut rows = [false; ROWS];
-    let mut row = 0;
-    while row < ROWS {
-        let value = eval(list, &places, row);
-        rows[row] = value;
-        row += 1;
+    for (row, value) in rows.iter_mut().enumerate() {
+        *value = eval(list, &places, row);
     }
     rows
 }

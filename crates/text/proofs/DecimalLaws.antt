@@ -3,18 +3,20 @@
 use mathlib.Core.Path.{◌≡◌, refl, sym, ap, ◌∙◌}
 use mathlib.Core.Bool.{Bool, true, false, not, cond, ◌&&◌, false≢true}
 use mathlib.Core.List.{List, [], ◌∷◌, ◌++◌, append_assoc, append-nil}
-use mathlib.Core.Option.{some, none}
-use Prim.Native.Nat.{ℕ, zero, suc, ◌+◌, ◌-◌, ◌*◌, ◌/◌, ◌%◌, ◌^◌, min, ◌≤◌, ◌<◌}
+use Rattle.std.proofs.Common.{Option, Some, None}
+use Rattle.std.specs.Option.{option_and_then}
+use Rattle.std.proofs.lemmas.Option.{none-some}
+use Prim.Native.Nat.{ℕ, zero, suc, ◌+◌, ◌-◌, ◌*◌, ◌/◌, ◌%◌, ◌^◌, ◌≤◌, ◌<◌}
 use native.Mathlib.Nat.{not-suc-le-zero, pow-suc}
 use native.Mathlib.Numerals.{add-one}
 use native.Mathlib.Omega.{arith}
-use borrow.Author.Tests.{lt-ltb, le-ltb, ltb-true, ltb-false, le-leb, leb-true, eq-eqb, ne_eqb, eqb-false}
+use borrow.Author.Tests.{lt-ltb, le-ltb, ltb-true, ltb-false, le-leb, lt-leb, leb-true, leb-false, eq-eqb, ne_eqb, eqb-false}
 use lib.Dec.{eqb, leb, ltb}
 use lib.ListN.{length, get_or, drop, length-append, get_or-append, drop_of_length-le}
 use lib.Seq.{drop-cons}
 use Rattle.tree.specs.Tree.{is_in}
 use Rattle.text.specs.Decimal.{nought, spell, digits, is_digit, all_digits, value, leading_zero, decimal}
-use Rattle.text.specs.Inner.{no_number, capped, digit_after}
+use Rattle.text.specs.Inner.{most_number, capped, digit_after}
 
 -- ---- one digit less
 spell_enough : (j k n : ℕ) → n < j → n < k → spell j n ≡ spell k n
@@ -41,6 +43,8 @@ length_small n h = ap length (digits_small n h)
 
 pub length_large : (n : ℕ) → 10 ≤ n → length (digits n) ≡ length (digits (n / 10)) + 1
 length_large n h = ap length (digits_large n h) ∙ simp length-append
+
+pub ruleset lengths = (length_small, length_large)
 
 -- a number below ten to the k has at most k digits
 pub digits_length : (k n : ℕ) → n < 10 ^ suc k → length (digits n) ≤ suc k
@@ -127,13 +131,13 @@ no_leading n = go (ltb n 10) refl
     go true e = lead_short (digits n) (omega (arith, length_small n (ltb-true n 10 e)))
     go false e = lead_other (digits n) ((the_back n).lead (omega (arith, ltb-false n 10 e)))
 
-pub decimal_digits : (n : ℕ) → decimal (digits n) ≡ some n
+pub decimal_digits : (n : ℕ) → decimal (digits n) ≡ Some n
 unfolding decimal
 decimal_digits n = let k = the_back n in rw (lt-ltb 0 (length (digits n)) k.some_digit, no_leading n, k.all, k.is)
 
 -- two numbers with the same digits are the same
 pub digits_injective : (m n : ℕ) → digits m ≡ digits n → m ≡ n
-digits_injective m n e = let z : some m ≡ some n = sym (decimal_digits m) ∙ ap decimal e ∙ decimal_digits n in cc
+digits_injective m n e = let z : Some m ≡ Some n = sym (decimal_digits m) ∙ ap decimal e ∙ decimal_digits n in cc
 
 -- a byte that is no digit is not among them
 free : (b : ℕ) → is_digit b ≡ false → (ds : List ℕ) → all_digits ds ≡ true → is_in ds b ≡ false
@@ -184,58 +188,77 @@ numeral (d ∷ (c ∷ ds)) e =
     not_nought a true false q p e = eqb-false d nought q
     not_nought a false t q p e = absurd (false≢true p)
 
-pub digits_decimal : (f : List ℕ) (n : ℕ) → decimal f ≡ some n → f ≡ digits n
+pub digits_decimal : (f : List ℕ) (n : ℕ) → decimal f ≡ Some n → f ≡ digits n
 unfolding decimal
 digits_decimal f n e = go (ltb 0 (length f) && not (leading_zero f) && all_digits f) refl e
   where
-    go : (b : Bool) → (ltb 0 (length f) && not (leading_zero f) && all_digits f) ≡ b → cond b (some (value 0 f)) none ≡ some n → f ≡ digits n
+    go : (b : Bool) → (ltb 0 (length f) && not (leading_zero f) && all_digits f) ≡ b → cond b (Some (value 0 f)) None ≡ Some n → f ≡ digits n
     go true q e = let z : value 0 f ≡ n = cc in numeral f q ∙ ap digits z
     go false q e = absurd (let z : ◌≡◌ {A = ℕ} 0 1 = cc in omega arith)
 
 -- ---- the loop of `number`
-unfoldable pub after : ℕ → List ℕ → ℕ
+unfoldable pub after : Option ℕ → List ℕ → Option ℕ
 after v [] = v
-after v (d ∷ ds) = after (digit_after v d) ds
+after v (d ∷ ds) = after (option_and_then (λ w. digit_after w d) v) ds
 
-absorb : (ds : List ℕ) → after no_number ds ≡ no_number
+pub after_none : (ds : List ℕ) → after None ds ≡ None
 unfolding after
-absorb [] = refl
-absorb (d ∷ ds) = rw (stay (is_digit d)) (absorb ds)
-  where
-    stay : (b : Bool) → cond b (min no_number (no_number * 10 + (d - nought))) no_number ≡ no_number
-    stay true = omega arith
-    stay false = refl
+after_none [] = refl
+after_none (d ∷ ds) = after_none ds
 
-after_value : (ds : List ℕ) (v w : ℕ) → v ≡ min no_number w → after v ds ≡ cond (all_digits ds) (min no_number (value w ds)) no_number
+after_value : (ds : List ℕ) (w : ℕ) → after (capped (Some w)) ds ≡ cond (all_digits ds) (capped (Some (value w ds))) None
 unfolding after all_digits value
-after_value [] v w e = e
-after_value (d ∷ ds) v w e = go (is_digit d) (after_value ds (min no_number (v * 10 + (d - nought))) (w * 10 + (d - nought)))
+after_value [] w = refl
+after_value (d ∷ ds) w = go (leb w most_number) refl (is_digit d) refl (after_value ds (w * 10 + (d - nought)))
   where
-    go : (b : Bool) → (min no_number (v * 10 + (d - nought)) ≡ min no_number (w * 10 + (d - nought)) → after (min no_number (v * 10 + (d - nought))) ds ≡ cond (all_digits ds) (min no_number (value (w * 10 + (d - nought)) ds)) no_number)
-        → after (cond b (min no_number (v * 10 + (d - nought))) no_number) ds ≡ cond (b && all_digits ds) (min no_number (value (w * 10 + (d - nought)) ds)) no_number
-    go true ih = ih (omega arith)
-    go false ih = absorb ds
+    next : ℕ
+    next = w * 10 + (d - nought)
 
-pub number_start : (f : List ℕ) → (length f ≡ 0 → ⊥) → leading_zero f ≡ false → capped (decimal f) ≡ after 0 f
+    go : (b : Bool) → leb w most_number ≡ b → (t : Bool) → is_digit d ≡ t → after (capped (Some next)) ds ≡ cond (all_digits ds) (capped (Some (value next ds))) None
+        → after (option_and_then (λ w. digit_after w d) (cond b (Some w) None)) ds ≡ cond (t && all_digits ds) (capped (Some (value next ds))) None
+    go true q true r ih = rw r ih
+    go true q false r ih = rw r (after_none ds)
+    go false q true r ih = let e = lt-leb next most_number (omega (arith, leb-false w most_number q)) in rw e at ih
+    go false q false r ih = after_none ds
+
+pub number_start : (f : List ℕ) → (length f ≡ 0 → ⊥) → leading_zero f ≡ false → capped (decimal f) ≡ after (Some 0) f
 unfolding decimal
-number_start f h e = rw (lt-ltb 0 (length f) (omega arith), e) (go (all_digits f)) ∙ sym (after_value f 0 0 (omega arith))
+number_start f h e = rw (lt-ltb 0 (length f) (omega arith), e) (go (all_digits f)) ∙ sym (after_value f 0)
   where
-    go : (b : Bool) → capped (cond b (some (value 0 f)) none) ≡ cond b (min no_number (value 0 f)) no_number
+    go : (b : Bool) → capped (cond b (Some (value 0 f)) None) ≡ cond b (capped (Some (value 0 f))) None
     go true = refl
     go false = refl
 
-pub number_empty : (f : List ℕ) → length f ≡ 0 → capped (decimal f) ≡ no_number
+pub number_empty : (f : List ℕ) → length f ≡ 0 → capped (decimal f) ≡ None
 unfolding decimal
 number_empty f e = rw e
 
-pub number_leading : (f : List ℕ) → 1 < length f → get_or f 0 0 ≡ nought → capped (decimal f) ≡ no_number
+pub number_leading : (f : List ℕ) → 1 < length f → get_or f 0 0 ≡ nought → capped (decimal f) ≡ None
 unfolding decimal
 number_leading f h e = rw (lt-ltb 0 (length f) (omega arith), lt-ltb 1 (length f) h, eq-eqb (get_or f 0 0) nought e)
 
-pub after_next : (v : ℕ) (f : List ℕ) (i : ℕ) → i < length f → after v (drop i f) ≡ after (digit_after v (get_or f i 0)) (drop (i + 1) f)
+pub after_next : (v : ℕ) (f : List ℕ) (i : ℕ) → i < length f → after (Some v) (drop i f) ≡ after (digit_after v (get_or f i 0)) (drop (i + 1) f)
 unfolding after
 after_next v f i h = rw (drop-cons f i 0 h, add-one)
 
-pub after_end : (v : ℕ) (f : List ℕ) (i : ℕ) → length f ≤ i → after v (drop i f) ≡ v
+pub after_end : (v : ℕ) (f : List ℕ) (i : ℕ) → length f ≤ i → after (Some v) (drop i f) ≡ Some v
 unfolding after
 after_end v f i h = rw (drop_of_length-le f h)
+
+-- what `capped` tells of the number
+pub capped_some : (o : Option ℕ) (n : ℕ) → Some n ≡ capped o → o ≡ Some n
+capped_some None n e = absurd (none-some n (sym e))
+capped_some (Some m) n e = go (leb m most_number) e
+  where
+    go : (b : Bool) → Some n ≡ cond b (Some m) None → Some m ≡ Some n
+    go true q = let z : n ≡ m = cc in ap Some (sym z)
+    go false q = absurd (none-some n (sym q))
+
+-- a number that is as none in code is none, or large
+pub capped_none : (o : Option ℕ) (n : ℕ) → None ≡ capped o → o ≡ Some n → most_number < n
+capped_none None n e q = absurd (let z : ◌≡◌ {A = ℕ} 0 1 = cc in omega arith)
+capped_none (Some m) n e q = go (leb m most_number) refl e
+  where
+    go : (b : Bool) → leb m most_number ≡ b → None ≡ cond b (Some m) None → most_number < n
+    go true r z = absurd (none-some m z)
+    go false r z = let k : m ≡ n = cc in omega (arith, leb-false m most_number r)

@@ -3,13 +3,18 @@ use mathlib.Core.Path.{◌≡◌, refl, sym, ap, ap₂, ◌∙◌}
 use mathlib.Core.Bool.{Bool, true, false, cond, ◌||◌, true≢false}
 use mathlib.Core.List.{List, [], ◌∷◌, ◌++◌}
 use Prim.Native.Nat.{ℕ, suc, ◌+◌, ◌-◌, ◌≤◌, ◌<◌}
-use native.Mathlib.Nat.{not-suc-le-zero}
+use native.Mathlib.Nat.{not-suc-le-zero, add_comm}
 use native.Mathlib.Numerals.{add-one}
 use native.Mathlib.Omega.{arith}
-use borrow.Author.Tests.{eq-eqb, ne_eqb, eqb-true}
-use lib.Dec.{eqb}
-use lib.ListN.{length, get_or, take, drop, drop_of_length-le, length-drop}
-use lib.Seq.{drop-cons, take_all}
+use Rattle.std.proofs.lemmas.Bool.Decides.{nat_tests}
+use borrow.Author.Tests.{eq-eqb, eqb-true, ltb-true, ltb-false}
+use lib.Dec.{eqb, ltb}
+use lib.ListN.{length, take, drop, length-drop}
+use lib.Seq.{take_all}
+use Rattle.std.proofs.Common.{Option, Some, None}
+use Rattle.std.specs.Option.{MatchOption}
+use Rattle.std.specs.List.{position_or_len}
+use Rattle.std.proofs.lemmas.List.Recursion.{is_position_or_len}
 use Rattle.tree.specs.Tree.{is_in}
 use Rattle.text.specs.Parts.{Parts, last, part, onto, split, join}
 use Rattle.text.specs.Inner.{ahead}
@@ -86,19 +91,22 @@ ahead_most b (x ∷ xs) = go (eqb b x) (ahead_most b xs)
     go true h = omega arith
     go false h = omega arith
 
--- ---- the loop of `find`
-module _ (b : ℕ) (s : List ℕ) (i : ℕ) where
-  pub ahead_here : i < length s → get_or s i 0 ≡ b → ahead b (drop i s) ≡ 0
-  unfolding ahead
-  ahead_here h e = rw (drop-cons s i 0 h, eq-eqb b (get_or s i 0) (sym e))
+-- ---- how far `position` goes
+eqb_turned : (a b : ℕ) → eqb a b ≡ eqb b a
+eqb_turned a b = grind (arith, nat_tests)
 
-  pub ahead_next : i < length s → (get_or s i 0 ≡ b → ⊥) → ahead b (drop i s) ≡ ahead b (drop (i + 1) s) + 1
-  unfolding ahead
-  ahead_next h e = rw (drop-cons s i 0 h, ne_eqb b (get_or s i 0) (λ q. e (sym q)), add-one i)
+pub ahead_is : (b : ℕ) (xs : List ℕ) → ahead b xs ≡ position_or_len (λ x. eqb x b) xs
+unfolding ahead
+ahead_is b = is_position_or_len (ahead b) (λ x. eqb x b) refl (λ x xs. rw (eqb_turned b x, add_comm 1 (ahead b xs)))
 
-  pub ahead_end : length s ≤ i → ahead b (drop i s) ≡ 0
-  unfolding ahead
-  ahead_end h = rw (drop_of_length-le s h)
+-- what `position` answers, by the bytes ahead
+pub ahead_by : (b : ℕ) (xs : List ℕ) (r : Option ℕ) → r ≡ cond (ltb (position_or_len (λ x. eqb x b) xs) (length xs)) (Some (position_or_len (λ x. eqb x b) xs)) None
+    → MatchOption r (ahead b xs ≡ length xs) (λ k. (k ≡ ahead b xs) × (k < length xs))
+ahead_by b xs r e = rw (e, ← ahead_is b xs) (go (ltb (ahead b xs) (length xs)) refl)
+  where
+    go : (t : Bool) → ltb (ahead b xs) (length xs) ≡ t → MatchOption (cond t (Some (ahead b xs)) None) (ahead b xs ≡ length xs) (λ k. (k ≡ ahead b xs) × (k < length xs))
+    go true q = (refl, ltb-true _ _ q)
+    go false q = omega (arith, ltb-false _ _ q, ahead_most b xs)
 
 -- the part of a slice from k on
 pub rest_all : (k : ℕ) (s : List ℕ) → take (length s - k) (drop k s) ≡ drop k s

@@ -1,6 +1,5 @@
 -- Document 01: "Decimal fields have no leading zero; nought is `0`." Bytes are numbers.
-use Rattle.std.specs.Prelude.{Bool, true, not, cond, ◌&&◌, List, [], ◌∷◌, ◌++◌, ℕ, zero, suc, ◌+◌, ◌-◌, ◌*◌, ◌/◌, ◌%◌, eqb, leb, ltb, length, get_or}
-use Rattle.std.proofs.Math.Option.{Option, some, none}
+use Rattle.std.specs.Prelude.{Bool, true, not, cond, ◌&&◌, List, [], ◌∷◌, ◌++◌, ℕ, zero, suc, ◌+◌, ◌-◌, ◌*◌, ◌/◌, ◌%◌, eqb, leb, ltb, length, get_or, Option, Some, None}
 
 -- the byte `0`; the other nine digits follow it
 abbrev pub nought : ℕ
@@ -35,4 +34,4 @@ leading_zero f = ltb 1 (length f) && eqb (get_or f 0 0) nought
 
 -- the number of a decimal field, or none: at least one digit, no leading zero, nothing but digits
 unfoldable pub decimal : List ℕ → Option ℕ
-decimal f = cond (ltb 0 (length f) && not (leading_zero f) && all_digits f) (some (value 0 f)) none
+decimal f = cond (ltb 0 (length f) && not (leading_zero f) && all_digits f) (Some (value 0 f)) None

@@ -1,21 +1,20 @@
 -- What contracts of functions within say of a field: its number as the code holds it, the bytes that are written for it, and how far
 -- the next parting byte is.
-use Rattle.std.specs.Prelude.{cond, List, [], ◌∷◌, ◌++◌, ℕ, ◌+◌, ◌-◌, ◌*◌, min, eqb}
-use Rattle.std.proofs.Math.Option.{Option, some, none}
+use Rattle.std.specs.Prelude.{cond, List, [], ◌∷◌, ◌++◌, ℕ, ◌+◌, ◌-◌, ◌*◌, eqb, leb, Option, Some, None}
 use Rattle.text.specs.Decimal.{nought, is_digit, digits}
 use Rattle.text.specs.Line.{tab}
 
--- In code a field's number is at most 65,534; 65,535 stands for every larger one and for what is no number.
-abbrev pub no_number : ℕ
-no_number = 65535
+-- In code a field's number is at most 65,534: none stands for every larger one, as for what is no number.
+abbrev pub most_number : ℕ
+most_number = 65534
 
-abbrev pub capped : Option ℕ → ℕ
-capped none = no_number
-capped (some n) = min no_number n
+abbrev pub capped : Option ℕ → Option ℕ
+capped None = None
+capped (Some n) = cond (leb n most_number) (Some n) None
 
 -- the number so far with one byte more, in code
-abbrev pub digit_after : ℕ → ℕ → ℕ
-digit_after v d = cond (is_digit d) (min no_number (v * 10 + (d - nought))) no_number
+abbrev pub digit_after : ℕ → ℕ → Option ℕ
+digit_after v d = cond (is_digit d) (capped (Some (v * 10 + (d - nought)))) None
 
 -- a field after the first
 abbrev pub field : ℕ → List ℕ

@@ -1,6 +1,6 @@
 -- A tree's list parses to that tree, and a list that parses is that tree's list; how the loop of `is_tree` follows parsing.
-use mathlib.Core.Path.{◌≡◌, refl, sym, ap, ◌∙◌}
-use mathlib.Core.Bool.{Bool, true, false, cond, false≢true}
+use mathlib.Core.Path.{◌≡◌, refl, sym, ap, subst, ◌∙◌}
+use mathlib.Core.Bool.{Bool, true, false, cond, true≢false, false≢true}
 use mathlib.Core.List.{List, [], ◌∷◌, ◌++◌, append_assoc, append-nil}
 use mathlib.Core.Option.{Option, some, none}
 use Prim.Native.Nat.{ℕ, suc, ◌+◌, ◌-◌, ◌≤◌, ◌<◌}
@@ -8,11 +8,14 @@ use native.Mathlib.Omega.{arith}
 use borrow.Author.Tests.{le-ltb, lt-ltb, le-leb, lt-leb, leb-true, ne_eqb}
 use lib.Dec.{T, eqb, leb, ltb}
 use lib.ListN.{length, get_or, drop, drop_of_length-le}
-use Rattle.tree.specs.Tree.{Operator, Tree, leaf, node, is_group, postfix, size, sign, most_nodes}
-use Rattle.tree.specs.Pass.{Entry, group, operator, neither, entry_of, pushed, and_then, pass}
+use Rattle.std.proofs.lemmas.Bool.Decides.{nat_tests}
+use Rattle.tree.specs.Tree.{Operator, union, difference, intersection, Tree, leaf, node, is_group, postfix, size, sign, most_nodes}
+use Rattle.tree.specs.Pass.{Entry, group, operator, neither, classify, entry_of, pushed, and_then, pass}
 use Rattle.tree.specs.InnerPass.{fold}
 use Rattle.tree.specs.Parse.{alone, waiting, parse, tree_of, is_some}
 use Rattle.tree.specs.InnerScan.{entry_kind}
+use Rattle.tree.specs.declared.EntryKind.{EntryKind}
+use Rattle.tree.specs.declared.EntryKind.TheVariants.{Group, Operator as AnOperator, Neither}
 use Rattle.tree.proofs.TreeLaws.{postfix_length, size_positive}
 use Rattle.tree.proofs.PassLaws.{Writes, entry_sign, entry_leaf, entry_writes, here, pass_whole}
 
@@ -165,12 +168,35 @@ no_tree_of l h = go (tree_of l) refl h
     go none e h = e
     go (some t) e h = absurd (false≢true (sym h))
 
+-- ---- an entry's kind: what is no group is an operator by the three tests of `entry_of`, or neither
+module _ (x : ℕ) where
+  pub kind_group : is_group x ≡ true → entry_kind (entry_of x) ≡ Group
+  kind_group e = ap entry_kind (entry_leaf x (subst T (sym e) tt))
+
+  abbrev pub KindBySign : EntryKind → Type 0
+  KindBySign k = k ≡ cond (eqb x (sign union)) AnOperator (cond (eqb x (sign difference)) AnOperator (cond (eqb x (sign intersection)) AnOperator Neither))
+
+  pub kind_no_group : is_group x ≡ false → KindBySign (entry_kind (entry_of x))
+  unfolding entry_of
+  kind_no_group e = go (is_group x) refl e
+    where
+      go : (b : Bool) (q : is_group x ≡ b) → b ≡ false → KindBySign (entry_kind (classify x b q))
+      go true q f = absurd (true≢false f)
+      go false q f = grind (arith, nat_tests)
+
+-- for `grind`
+pub ruleset kinds = (nat_tests, kind_group, kind_no_group)
+
 -- ---- the loop of `is_tree`: with d trees waiting, does the rest of the list make them one
+-- an entry of this kind, and then what the others make of the trees that wait
+abbrev pub turned : EntryKind → ℕ → (ℕ → Bool) → Bool
+turned Group d rest = rest (d + 1)
+turned AnOperator d rest = cond (ltb d 2) false (rest (d - 1))
+turned Neither d rest = false
+
 unfoldable pub formed : ℕ → List ℕ → Bool
 formed d [] = eqb d 1
-formed d (x ∷ xs) =
-    cond (eqb (entry_kind (entry_of x)) 0) (formed (d + 1) xs)
-    (cond (eqb (entry_kind (entry_of x)) 1) (cond (ltb d 2) false (formed (d - 1) xs)) false)
+formed d (x ∷ xs) = turned (entry_kind (entry_of x)) d (λ d. formed d xs)
 
 formed_waiting : (i : ℕ) (xs : List ℕ) (s : List Tree) → formed (length s) xs ≡ is_some (alone (waiting i xs s))
 unfolding formed
@@ -180,8 +206,7 @@ formed_waiting i [] (t ∷ (u ∷ s)) = ne_eqb (suc (suc (length s))) 1 (λ e. o
 formed_waiting i (x ∷ xs) s = go (entry_of x) s (λ s. formed_waiting (i + 1) xs s) ∙ ap (λ (o : Option (List Tree)). is_some (alone o)) (sym (waiting_one i x xs s))
   where
     go : (k : Entry) (s : List Tree) → ((s : List Tree) → formed (length s) xs ≡ is_some (alone (waiting (i + 1) xs s)))
-        → cond (eqb (entry_kind k) 0) (formed (length s + 1) xs) (cond (eqb (entry_kind k) 1) (cond (ltb (length s) 2) false (formed (length s - 1) xs)) false)
-        ≡ is_some (alone (wait (i + 1) xs (pushed_tree i k s)))
+        → turned (entry_kind k) (length s) (λ d. formed d xs) ≡ is_some (alone (wait (i + 1) xs (pushed_tree i k s)))
     go (group g h) s ih = ap (λ (d : ℕ). formed d xs) (let q : length s + 1 ≡ suc (length s) = omega arith in q) ∙ ih (leaf g h ∷ s)
     go (operator o) [] ih = refl
     go (operator o) (t ∷ []) ih = refl
@@ -200,17 +225,25 @@ long_no_tree l h = rw (lt-leb (length l) most_nodes h)
 
 -- one turn of the loop
 module _ (l : List ℕ) (i d : ℕ) (h : i < length l) where
-  pub formed_group : 0 ≡ entry_kind (entry_of (get_or l i 0)) → formed d (drop i l) ≡ formed (d + 1) (drop (i + 1) l)
-  formed_group e = rw (here l i h) (unfold formed in simp (sym e))
+  pub formed_group : entry_kind (entry_of (get_or l i 0)) ≡ Group → formed d (drop i l) ≡ formed (d + 1) (drop (i + 1) l)
+  unfolding formed
+  formed_group e = rw (here l i h, e)
 
-  pub formed_operator : 1 ≡ entry_kind (entry_of (get_or l i 0)) → 2 ≤ d → formed d (drop i l) ≡ formed (d - 1) (drop (i + 1) l)
-  formed_operator e k = rw (here l i h) (unfold formed in simp (sym e, le-ltb d 2 k))
+  pub formed_operator : entry_kind (entry_of (get_or l i 0)) ≡ AnOperator → 2 ≤ d → formed d (drop i l) ≡ formed (d - 1) (drop (i + 1) l)
+  unfolding formed
+  formed_operator e k = rw (here l i h, e, le-ltb d 2 k)
 
-  pub formed_short : 1 ≡ entry_kind (entry_of (get_or l i 0)) → d < 2 → formed d (drop i l) ≡ false
-  formed_short e k = rw (here l i h) (unfold formed in simp (sym e, lt-ltb d 2 k))
+  pub formed_short : entry_kind (entry_of (get_or l i 0)) ≡ AnOperator → d < 2 → formed d (drop i l) ≡ false
+  unfolding formed
+  formed_short e k = rw (here l i h, e, lt-ltb d 2 k)
 
-  pub formed_neither : (k : ℕ) → k ≡ entry_kind (entry_of (get_or l i 0)) → (k ≡ 0 → ⊥) → (k ≡ 1 → ⊥) → formed d (drop i l) ≡ false
-  formed_neither k e n m = rw (here l i h) (unfold formed in simp (sym e, ne_eqb k 0 n, ne_eqb k 1 m))
+  pub formed_neither : entry_kind (entry_of (get_or l i 0)) ≡ Neither → formed d (drop i l) ≡ false
+  unfolding formed
+  formed_neither e = rw (here l i h, e)
 
 pub formed_end : (l : List ℕ) (i d : ℕ) → length l ≤ i → formed d (drop i l) ≡ eqb d 1
-formed_end l i d h = rw (drop_of_length-le l h) (unfold formed in refl)
+unfolding formed
+formed_end l i d h = rw (drop_of_length-le l h)
+
+-- all of it, for `grind`
+pub ruleset formed_turns = (long_no_tree, formed_tree, formed_group, formed_operator, formed_short, formed_neither, formed_end)

@@ -7,12 +7,14 @@ use lib.Dec.{T}
 use lib.ListN.{length, get_or, take, drop, length-append, length-reverse}
 use lib.Seq.{take_at, drop_at, get_or_at, get_or-drop}
 use Rattle.tree.specs.Tree.{Operator, Tree, leaf, node, is_group, sign, postfix, size}
-use Rattle.tree.specs.Context.{left, right, Frame, frame, plug, before}
+use Rattle.tree.specs.Context.{Side, left, right, Frame, frame, plug, before}
 use Rattle.tree.proofs.ContextLaws.{after, postfix_plug, found_at}
 use Rattle.tree.specs.Parse.{locate}
-use Rattle.tree.specs.InnerPart.{Part, kind_number, above_of}
+use Rattle.tree.specs.InnerPart.{Part, kind_of, above_of}
 use Rattle.tree.specs.InnerScan.{onward, backward}
-use Rattle.tree.specs.declared.Above.TheVariants.{Root, Under}
+use Rattle.std.specs.Prelude.{Option, Some, None}
+use Rattle.tree.specs.declared.Stretch.{Stretch}
+use Rattle.tree.specs.declared.Operand.{Operand}
 use Rattle.tree.proofs.TreeLaws.{postfix_length, size_positive}
 use Rattle.tree.proofs.ParseLaws.{IsTree, tree_length}
 use Rattle.tree.proofs.ScanLaws.{onward_postfix, onward_sign, backward_postfix}
@@ -138,31 +140,36 @@ found : {l : List ℕ} {f t p : ℕ} {a : Tree} (c : List Frame) → Part l f t 
 found {l} {f} {t} c P e = e ∙ ap (λ (x : List ℕ). t + onward 0 x) (part_drop P)
 
 -- ---- the three answers of `above_part`
-pub is_root : (l : List ℕ) (f t p : ℕ) (a : Tree) (c : List Frame) → Part l f t a c → p ≡ t + onward 0 (drop t l) → length l ≤ p → Root ≡ above_of f t c
-unfolding above_of
-is_root l f t p a [] P e h = refl
-is_root l f t p a (frame left o b ∷ c) P e h = absurd (omega (arith, found _ P e, up_left o b c, after_left o b c, part_length P))
-is_root l f t p a (frame right o b ∷ c) P e h = absurd (omega (arith, found _ P e, up_right o b c, after_right o b c, part_length P))
+-- the operator at p, by its entry
+abbrev pub OperandAt : List ℕ → ℕ → Side → Option Operand → Type 0
+OperandAt l p s k = (o : Operator) → get_or l p 0 ≡ sign o → k ≡ kind_of s o
 
-pub is_left : (l : List ℕ) (f t p : ℕ) (a : Tree) (c : List Frame) → Part l f t a c → p ≡ t + onward 0 (drop t l) → p < length l → (p ≡ t → ⊥)
-    → (k : ℕ) → ((o : Operator) → get_or l p 0 ≡ sign o → k ≡ kind_number o) → Under k t p f (p + 1) ≡ above_of f t c
-unfolding above_of
-is_left l f t p a [] P e h n k ke = absurd (unfold after in omega (arith, found _ P e, part_length P))
-is_left l f t p a (frame right o b ∷ c) P e h n k ke = absurd (omega (arith, found _ P e, up_right o b c))
-is_left l f t p a (frame left o b ∷ c) P e h n k ke =
-    let q : p ≡ t + size b = omega (arith, found _ P e, up_left o b c) in
-    let x : get_or l p 0 ≡ sign o = ap (λ (i : ℕ). get_or l i 0) q ∙ part_at_lem P (size b) ∙ at_left o b c in
-    cc (ke o x)
+module _ {l : List ℕ} (s : Stretch) where
+  pub is_root : (a : Tree) (c : List Frame) → Part l s.from s.to a c → length l ≤ s.to + onward 0 (drop s.to l) → None ≡ above_of s c
+  unfolding above_of
+  is_root a [] P h = refl
+  is_root a (frame left o b ∷ c) P h = absurd (omega (arith, found _ P refl, up_left o b c, after_left o b c, part_length P))
+  is_root a (frame right o b ∷ c) P h = absurd (omega (arith, found _ P refl, up_right o b c, after_right o b c, part_length P))
 
-pub is_right : (l : List ℕ) (f t p s : ℕ) (a : Tree) (c : List Frame) → Part l f t a c → p ≡ t + onward 0 (drop t l) → p < length l → p ≡ t
-    → s ≡ backward 1 (reverse (take f l))
-    → (k : ℕ) → ((o : Operator) → get_or l p 0 ≡ sign o → k ≡ kind_number o) → Under (2 + k) s f s (p + 1) ≡ above_of f t c
-unfolding above_of
-is_right l f t p s a [] P e h n w k ke = absurd (unfold after in omega (arith, part_length P))
-is_right l f t p s a (frame left o b ∷ c) P e h n w k ke = absurd (omega (arith, found _ P e, up_left o b c, size_positive b))
-is_right l f t p s a (frame right o b ∷ c) P e h n w k ke =
-    let q : p ≡ t + 0 = omega arith in
-    let x : get_or l p 0 ≡ sign o = ap (λ (i : ℕ). get_or l i 0) q ∙ part_at_lem P 0 ∙ (unfold after in refl) in
-    let y : s ≡ length (before c) = w ∙ ap (λ (x : List ℕ). backward 1 (reverse x)) (part_take P) ∙ back_right o b c in
-    let z : s ≡ f - size b = omega (arith, P.begins, before_right o b c) in
-    cc (ke o x)
+  pub is_left : (p : ℕ) (a : Tree) (c : List Frame) → Part l s.from s.to a c → p ≡ s.to + onward 0 (drop s.to l) → p < length l → (p ≡ s.to → ⊥) → (k : Option Operand) → OperandAt l p left k
+      → Some (record { operand = k; sibling = record { from = s.to; to = p }; parent = record { from = s.from; to = p + 1 } }) ≡ above_of s c
+  unfolding above_of
+  is_left p a [] P e h n k ke = absurd (unfold after in omega (arith, found _ P e, part_length P))
+  is_left p a (frame right o b ∷ c) P e h n k ke = absurd (omega (arith, found _ P e, up_right o b c))
+  is_left p a (frame left o b ∷ c) P e h n k ke =
+      let q : p ≡ s.to + size b = omega (arith, found _ P e, up_left o b c) in
+      let x : get_or l p 0 ≡ sign o = ap (λ (i : ℕ). get_or l i 0) q ∙ part_at_lem P (size b) ∙ at_left o b c in
+      cc (ke o x)
+
+  pub is_right : (p from : ℕ) (a : Tree) (c : List Frame) → Part l s.from s.to a c → p ≡ s.to + onward 0 (drop s.to l) → p < length l → p ≡ s.to
+      → from ≡ backward 1 (reverse (take s.from l)) → (k : Option Operand) → OperandAt l p right k
+      → Some (record { operand = k; sibling = record { from = from; to = s.from }; parent = record { from = from; to = p + 1 } }) ≡ above_of s c
+  unfolding above_of
+  is_right p from a [] P e h n w k ke = absurd (unfold after in omega (arith, part_length P))
+  is_right p from a (frame left o b ∷ c) P e h n w k ke = absurd (omega (arith, found _ P e, up_left o b c, size_positive b))
+  is_right p from a (frame right o b ∷ c) P e h n w k ke =
+      let q : p ≡ s.to + 0 = omega arith in
+      let x : get_or l p 0 ≡ sign o = ap (λ (i : ℕ). get_or l i 0) q ∙ part_at_lem P 0 ∙ (unfold after in refl) in
+      let y : from ≡ length (before c) = w ∙ ap (λ (x : List ℕ). backward 1 (reverse x)) (part_take P) ∙ back_right o b c in
+      let z : from ≡ s.from - size b = omega (arith, P.begins, before_right o b c) in
+      cc (ke o x)

@@ -1,18 +1,17 @@
 -- The scans `scan_onward` and `scan_backward`: one turn of each loop, and what they pass in a tree's list.
-use mathlib.Core.Path.{◌≡◌, refl, sym, ap, subst, ◌∙◌}
-use mathlib.Core.Bool.{Bool, true, false, cond, true≢false}
+use mathlib.Core.Path.{◌≡◌, refl, ap, ◌∙◌}
+use mathlib.Core.Bool.{Bool, true, false, cond}
 use mathlib.Core.List.{List, [], ◌∷◌, ◌++◌, append_assoc, reverse, reverse-append}
 use Prim.Native.Nat.{ℕ, suc, ◌+◌, ◌-◌, ◌≤◌, ◌<◌}
 use native.Mathlib.Omega.{arith}
-use borrow.Author.Tests.{le-leb, lt-leb, ne_eqb}
+use borrow.Author.Tests.{le-leb, lt-leb}
 use lib.Dec.{T, leb}
 use lib.ListN.{length, get_or, take, drop, length-reverse, drop_of_length-le}
 use lib.Seq.{take-suc, length-take-le}
 use Rattle.tree.specs.Tree.{Operator, union, difference, intersection, Tree, leaf, node, is_group, sign, postfix, size}
-use Rattle.tree.specs.Pass.{classify, entry_of}
-use Rattle.tree.specs.InnerScan.{entry_kind, is_operator, onward, backward}
+use Rattle.tree.specs.InnerScan.{is_operator, onward, backward}
 use Rattle.tree.proofs.TreeLaws.{group_most}
-use Rattle.tree.proofs.PassLaws.{here, entry_sign, entry_leaf}
+use Rattle.tree.proofs.PassLaws.{here}
 
 -- ---- one turn of each loop
 module _ (l : List ℕ) (i k : ℕ) where
@@ -54,6 +53,11 @@ module _ (l : List ℕ) (i n : ℕ) (p : 0 < i) (h : i ≤ length l) where
   pub backward_stop : get_or l (i - 1) 0 < sign union → n ≤ 1 → backward n (reverse (take i l)) ≡ i - 1
   unfolding backward
   backward_stop o k = rw reverse_take (simp (lt-leb _ _ o, le-leb _ _ k, length-reverse) (length-take-le (i - 1) l (omega arith)))
+
+-- all turns of each loop, for `grind`
+pub ruleset onward_turns = (onward_end, onward_stop, onward_operator, onward_leaf)
+
+pub ruleset backward_turns = (backward_none, backward_stop, backward_operator, backward_leaf)
 
 -- ---- over a tree's list
 pub operator_sign_lem : (o : Operator) → is_operator (sign o) ≡ true
@@ -97,19 +101,3 @@ backward_postfix (node o x y) n r p =
     ∙ ap (λ (b : Bool). cond b (length (reverse (postfix x) ++ r)) (backward (n + 1 - 1) (reverse (postfix x) ++ r))) (lt-leb (n + 1) 1 (omega arith))
     ∙ ap (λ (m : ℕ). backward m (reverse (postfix x) ++ r)) e
     ∙ backward_postfix x n r p
-
--- ---- an entry's kind
-module _ (x : ℕ) where
-  pub kind_group : is_group x ≡ true → 0 ≡ entry_kind (entry_of x)
-  kind_group e = sym (ap entry_kind (entry_leaf x (subst T (sym e) tt)))
-
-  pub kind_operator : (o : Operator) → x ≡ sign o → 1 ≡ entry_kind (entry_of x)
-  kind_operator o e = sym (ap entry_kind (ap entry_of e ∙ entry_sign o))
-
-  pub kind_neither : is_group x ≡ false → ((o : Operator) → x ≡ sign o → ⊥) → 2 ≡ entry_kind (entry_of x)
-  unfolding entry_of
-  kind_neither e n = go (is_group x) refl e
-    where
-      go : (b : Bool) (q : is_group x ≡ b) → b ≡ false → 2 ≡ entry_kind (classify x b q)
-      go true q f = absurd (true≢false f)
-      go false q f = rw (ne_eqb x (sign union) (n union), ne_eqb x (sign difference) (n difference), ne_eqb x (sign intersection) (n intersection))

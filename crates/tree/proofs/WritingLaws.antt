@@ -5,31 +5,33 @@ use Prim.Native.Nat.{ℕ, suc, ◌+◌, ◌≤◌, ◌<◌}
 use native.Mathlib.Omega.{arith}
 use native.Mathlib.Numerals.{add-one}
 use lib.ListN.{length, get_or, set, take, drop, length-append, length-set}
-use lib.Seq.{sets, sets-eq, take_at, take-suc}
+use lib.Seq.{sets, sets-eq, length-sets, take_all, take_at, take-suc}
+use borrow.Rule.Slice.PartMut.{put_mid}
+use Rattle.std.proofs.lemmas.Slice.{put_mid-paste}
 use Rattle.tree.specs.Writing.{over}
 use Rattle.tree.specs.InnerWriting.{Wrote}
 
-pub sets_append : (l vs ws : List ℕ) (i j : ℕ) → i + length vs ≡ j → sets l i (vs ++ ws) ≡ sets (sets l i vs) j ws
+pub sets_append : {A : Type 0} (l vs ws : List A) (i j : ℕ) → i + length vs ≡ j → sets l i (vs ++ ws) ≡ sets (sets l i vs) j ws
 sets_append l [] ws i j e = let z : i ≡ j = omega arith in rw z
 sets_append l (v ∷ vs) ws i j e = sets_append (set l i v) vs ws (suc i) j (omega arith)
 
-pub wrote_nothing : (out : List ℕ) (at : ℕ) → Wrote out at out at []
+pub wrote_nothing : {A : Type 0} (out : List A) (at : ℕ) → Wrote out at out at []
 wrote_nothing out at = record { list = refl; ends = omega arith; same = refl }
 
-pub wrote_one : (out : List ℕ) (at x : ℕ) → Wrote out at (set out at x) (at + 1) (x ∷ [])
+pub wrote_one : {A : Type 0} (out : List A) (at : ℕ) (x : A) → Wrote out at (set out at x) (at + 1) (x ∷ [])
 wrote_one out at x = record { list = refl; ends = refl; same = length-set out at x }
 
 -- one writing after another is one
-pub wrote_then : {out out₁ out₂ : List ℕ} {at at₁ at₂ : ℕ} {xs ys : List ℕ} → Wrote out at out₁ at₁ xs → Wrote out₁ at₁ out₂ at₂ ys → Wrote out at out₂ at₂ (xs ++ ys)
-wrote_then {out} {out₁} {out₂} {at} {at₁} {at₂} {xs} {ys} f g = record {
-  list = g.list ∙ ap (λ (o : List ℕ). sets o at₁ ys) f.list ∙ sym (sets_append out xs ys at at₁ (sym f.ends));
+pub wrote_then : {A : Type 0} {out out₁ out₂ : List A} {at at₁ at₂ : ℕ} {xs ys : List A} → Wrote out at out₁ at₁ xs → Wrote out₁ at₁ out₂ at₂ ys → Wrote out at out₂ at₂ (xs ++ ys)
+wrote_then {A} {out} {out₁} {out₂} {at} {at₁} {at₂} {xs} {ys} f g = record {
+  list = g.list ∙ ap (λ (o : List A). sets o at₁ ys) f.list ∙ sym (sets_append out xs ys at at₁ (sym f.ends));
   ends = omega (arith, f.ends, g.ends, length-append xs ys);
   same = g.same ∙ f.same;
 }
 
 -- the same with what was written said in another way
-pub wrote_as : {out out₁ : List ℕ} {at at₁ : ℕ} {xs ys : List ℕ} → Wrote out at out₁ at₁ xs → xs ≡ ys → Wrote out at out₁ at₁ ys
-wrote_as {out} {out₁} {at} {at₁} w e = rw e at w
+pub wrote_as : {A : Type 0} {out out₁ : List A} {at at₁ : ℕ} {xs ys : List A} → Wrote out at out₁ at₁ xs → xs ≡ ys → Wrote out at out₁ at₁ ys
+wrote_as {A} {out} {out₁} {at} {at₁} w e = rw e at w
 
 -- what was written from the front on, as 01 says it
 pub wrote_over : {out out₁ : List ℕ} {n : ℕ} {xs : List ℕ} → Wrote out 0 out₁ n xs → length xs ≤ length out → out₁ ≡ over xs out
@@ -41,6 +43,13 @@ take_over xs out n e = take_at xs (drop (length xs) out) n (sym e)
 
 pub wrote_take : {out out₁ : List ℕ} {n : ℕ} {xs : List ℕ} → Wrote out 0 out₁ n xs → length xs ≤ length out → take n out₁ ≡ xs
 wrote_take {out} {out₁} {n} {xs} w h = rw (wrote_over w h) (take_over xs out n (omega (arith, w.ends)))
+
+-- a list that is copied in one go, into a part of the buffer as long as it
+pub wrote_part : {A : Type 0} (out : List A) (at n : ℕ) (xs ys : List A) → at + length xs ≤ length out → n ≡ length xs → ys ≡ xs → Wrote out at (put_mid at n out ys) (at + length xs) xs
+wrote_part out at n xs ys h e f =
+    let list : put_mid at n out ys ≡ sets out at xs =
+    put_mid-paste at n out ys xs n f refl e ∙ rw (e, take_all (length xs) xs (omega arith), sets-eq xs out at h) in
+    record { list = list; ends = refl; same = ap length list ∙ length-sets out at xs }
 
 -- one entry more of a list that is copied
 pub wrote_next : {out out₁ : List ℕ} {at next : ℕ} (source : List ℕ) (i : ℕ) → i < length source → Wrote out at out₁ next (take i source)

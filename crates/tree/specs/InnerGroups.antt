@@ -1,7 +1,8 @@
 -- Lists of groups, as contracts of inner functions of this crate and of those above speak of them: each once, those among a tree's
 -- entries, and a list that holds up to eight.
-use Rattle.std.specs.Prelude.{◌≡◌, false, cond, List, [], ◌∷◌, ℕ, ◌≤◌, ◌<◌, ltb, length, take}
+use Rattle.std.specs.Prelude.{◌≡◌, false, cond, List, [], ◌∷◌, ℕ, ◌<◌, ltb, length, take, Option, Some, None}
 use Rattle.tree.specs.Tree.{union, sign, is_in, most_groups}
+use Rattle.tree.specs.declared.group_list.Groups.{Groups}
 
 -- no number stands in a list twice
 unfoldable pub Distinct : List ℕ → Type 0
@@ -13,7 +14,7 @@ unfoldable pub leaves_in : List ℕ → List ℕ
 leaves_in [] = []
 leaves_in (x ∷ xs) = cond (ltb x (sign union)) (x ∷ leaves_in xs) (leaves_in xs)
 
--- the list's first `count` numbers are gs, or gs are more than eight
-pub record Collected (gs list : List ℕ) (count : ℕ) : Type 0 where
-  pub fits : count ≤ most_groups → take count list ≡ gs
-  pub more : most_groups < count → most_groups < length gs
+-- the groups found are gs; where none are answered, gs are more than eight
+abbrev pub Collected : List ℕ → Option Groups → Type 0
+Collected gs None = most_groups < length gs
+Collected gs (Some found) = take found.count found.list ≡ gs

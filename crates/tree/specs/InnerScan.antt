@@ -1,14 +1,16 @@
--- What the scans of the code compute on a postfix list, and the numbers that the code gives to kinds of entries. The laws in
+-- What the scans of the code compute on a postfix list, and the kinds that the code gives to entries. The laws in
 -- proofs/ScanLaws.antt say what the scans find in a tree.
 use Rattle.std.specs.Prelude.{Bool, cond, List, [], ◌∷◌, ℕ, ◌+◌, ◌-◌, leb, length}
 use Rattle.tree.specs.Tree.{union, sign}
 use Rattle.tree.specs.Pass.{Entry, group, operator, neither}
+use Rattle.tree.specs.declared.EntryKind.{EntryKind}
+use Rattle.tree.specs.declared.EntryKind.TheVariants.{Group, Operator, Neither}
 
--- an entry's kind as a number
-abbrev pub entry_kind : Entry → ℕ
-entry_kind (group g h) = 0
-entry_kind (operator o) = 1
-entry_kind neither = 2
+-- an entry's kind in the code
+abbrev pub entry_kind : Entry → EntryKind
+entry_kind (group g h) = Group
+entry_kind (operator o) = Operator
+entry_kind neither = Neither
 
 -- in a tree's list, the operators are the numbers from union's on
 abbrev pub is_operator : ℕ → Bool

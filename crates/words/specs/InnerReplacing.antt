@@ -1,9 +1,9 @@
 -- What the functions answer that replace a stretch of a list by a word. No contract of one of 01's calls cites this file.
-use Rattle.std.specs.Prelude.{◌≡◌, List, ℕ, ◌+◌, ◌≤◌, ◌<◌, length, take}
+use Rattle.std.specs.Prelude.{◌≡◌, List, ℕ, ◌+◌, ◌≤◌, ◌<◌, length, take, Option, Some, None}
 use Rattle.tree.specs.Tree.{most_nodes}
+use Rattle.tree.specs.declared.Stretch.{Stretch}
 use Rattle.words.specs.InnerWords.{spell, leading, replaced}
 use Rattle.words.specs.declared.Replacement.{Replacement}
-use Rattle.words.specs.declared.Replacement.TheVariants.{TooLong, Done}
 
 -- the buffer begins with the new list xs, which has so many entries and is within the limit
 pub record Written (xs : List ℕ) (nodes : ℕ) (out : List ℕ) : Type 0 where
@@ -12,10 +12,10 @@ pub record Written (xs : List ℕ) (nodes : ℕ) (out : List ℕ) : Type 0 where
   pub entries : take nodes out ≡ xs
 
 -- what is answered of a new list in which A begins at `start`, and what the buffer then holds: "16 the result passes 8,191 nodes"
-abbrev pub ReplacedBy : List ℕ → ℕ → Replacement → List ℕ → Type 0
-ReplacedBy xs start TooLong out = most_nodes < length xs
-ReplacedBy xs start (Done nodes from) out = (from ≡ start) × Written xs nodes out
+abbrev pub ReplacedBy : List ℕ → ℕ → Option Replacement → List ℕ → Type 0
+ReplacedBy xs start None out = most_nodes < length xs
+ReplacedBy xs start (Some r) out = (r.from ≡ start) × Written xs r.nodes out
 
 -- a stretch is replaced by what a word stands for
-pub record Replaced (list from to w : List ℕ) (whole end : ℕ) (r : Replacement) (out : List ℕ) : Type 0 where
-  pub by_word : ReplacedBy (replaced list from to w whole end) (whole + length (spell list from to (leading w))) r out
+pub record Replaced (list : List ℕ) (parts : List Stretch) (w : List ℕ) (old : Stretch) (r : Option Replacement) (out : List ℕ) : Type 0 where
+  pub by_word : ReplacedBy (replaced list parts w old) (old.from + length (spell list parts (leading w))) r out

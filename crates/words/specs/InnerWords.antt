@@ -1,7 +1,9 @@
 -- What a word of the signs A B C D + - stands for, in a list of which four stretches are the parts. No contract of one of
 -- 01's calls cites this file.
-use Rattle.std.specs.Prelude.{cond, ◌&&◌, List, [], ◌∷◌, ◌++◌, ℕ, ◌-◌, ◌≤◌, ◌<◌, eqb, leb, ltb, length, get_or, take, drop}
-use Rattle.tree.specs.Tree.{plus, minus, operator_of, sign, most_nodes}
+use Rattle.std.specs.Prelude.{cond, ◌&&◌, List, [], ◌∷◌, ◌++◌, ℕ, ◌-◌, ◌≤◌, ◌<◌, eqb, leb, length, get_or, take, drop, Option, Some, None}
+use Rattle.std.specs.Option.{option_map, option_to_list}
+use Rattle.tree.specs.Tree.{Basic, plus, minus, operator_of, sign, most_nodes}
+use Rattle.tree.specs.declared.Stretch.{Stretch}
 use Rattle.words.specs.Word.{operator_sign}
 
 -- the bytes of the first part and of the last, and of what stands behind a word in a row of a table
@@ -14,41 +16,55 @@ last_part = 68
 abbrev pub blank : ℕ
 blank = 32
 
--- the entries of the list from `from` up to, not including, `to`, and that these are in it
-abbrev pub cut : List ℕ → ℕ → ℕ → List ℕ
-cut list from to = take (to - from) (drop from list)
+-- the entries of a stretch of the list, and that it is in the list
+abbrev pub cut : List ℕ → Stretch → List ℕ
+cut list s = take (s.to - s.from) (drop s.from list)
 
-pub record Range (list : List ℕ) (from to : ℕ) : Type 0 where
-  pub low : from ≤ to
-  pub high : to ≤ length list
+pub record Range (list : List ℕ) (s : Stretch) : Type 0 where
+  pub low : s.from ≤ s.to
+  pub high : s.to ≤ length list
 
-abbrev pub Within : List ℕ → List ℕ → List ℕ → Type 0
-Within list from to = (k : ℕ) → k < 4 → Range list (get_or from k 0) (get_or to k 0)
+-- the stretch of the part that has this number
+abbrev pub part_at : List Stretch → ℕ → Stretch
+part_at parts k = get_or parts k (record { from = 0; to = 0 })
+
+abbrev pub Within : List ℕ → List Stretch → Type 0
+Within list parts = (k : ℕ) → k < 4 → Range list (part_at parts k)
 
 -- the parts are those of some list that is no longer than a tree may be
-abbrev pub Bounded : List ℕ → List ℕ → Type 0
-Bounded from to = (list : List ℕ) × (length list ≤ most_nodes) × Within list from to
+abbrev pub Bounded : List Stretch → Type 0
+Bounded parts = (list : List ℕ) × (length list ≤ most_nodes) × Within list parts
 
--- which of the four parts a sign names, 4 for none
-abbrev pub part_of : ℕ → ℕ
-part_of s = cond (leb first_part s && leb s last_part) (s - first_part) 4
+-- which of the four parts a sign names
+abbrev pub part_of : ℕ → Option ℕ
+part_of s = cond (leb first_part s && leb s last_part) (Some (s - first_part)) None
+
+-- which operator a sign is, and its number in lists
+abbrev pub basic_of : ℕ → Option Basic
+basic_of s = cond (eqb s (operator_sign plus)) (Some plus) (cond (eqb s (operator_sign minus)) (Some minus) None)
+
+abbrev pub operator_number : ℕ → Option ℕ
+operator_number s = option_map (λ o. sign (operator_of o)) (basic_of s)
+
+-- the entries of a part; where there is none, others
+abbrev pub part_or : List ℕ → List Stretch → Option ℕ → List ℕ → List ℕ
+part_or list parts (Some k) others = cut list (part_at parts k)
+part_or list parts None others = others
 
 -- what a sign stands for: a part, an operator, or nothing
-unfoldable pub sign_for : List ℕ → List ℕ → List ℕ → ℕ → List ℕ
-sign_for list from to s =
-    cond (ltb (part_of s) 4) (cut list (get_or from (part_of s) 0) (get_or to (part_of s) 0))
-    (cond (eqb s (operator_sign plus)) (sign (operator_of plus) ∷ []) (cond (eqb s (operator_sign minus)) (sign (operator_of minus) ∷ []) []))
+unfoldable pub sign_for : List ℕ → List Stretch → ℕ → List ℕ
+sign_for list parts s = part_or list parts (part_of s) (option_to_list (operator_number s))
 
 -- what a word stands for
-unfoldable pub spell : List ℕ → List ℕ → List ℕ → List ℕ → List ℕ
-spell list from to [] = []
-spell list from to (s ∷ w) = sign_for list from to s ++ spell list from to w
+unfoldable pub spell : List ℕ → List Stretch → List ℕ → List ℕ
+spell list parts [] = []
+spell list parts (s ∷ w) = sign_for list parts s ++ spell list parts w
 
 -- the signs before A
 unfoldable pub leading : List ℕ → List ℕ
 leading [] = []
 leading (s ∷ w) = cond (eqb s first_part) [] (s ∷ leading w)
 
--- the list with the entries from `whole` up to, not including, `end` replaced by what a word stands for
-unfoldable pub replaced : List ℕ → List ℕ → List ℕ → List ℕ → ℕ → ℕ → List ℕ
-replaced list from to w whole end = take whole list ++ (spell list from to w ++ drop end list)
+-- the list with a stretch replaced by what a word stands for
+unfoldable pub replaced : List ℕ → List Stretch → List ℕ → Stretch → List ℕ
+replaced list parts w old = take old.from list ++ (spell list parts w ++ drop old.to list)

@@ -1,18 +1,17 @@
 -- `store_list`: so far the first i numbers have been stored.
 use mathlib.Core.Path.{◌∙◌}
-use native.Mathlib.Omega.{arith}
 use lib.Seq.{take_all}
 use Rattle.tree.proofs.WritingLaws.{wrote_nothing, wrote_next}
 use Rattle.exports.proofs.store_list.Goals as goal
 
 pub loop-i-init : goal.loop-i-init
-loop-i-init c = (omega arith, wrote_nothing c.args.out.now 0)
+loop-i-init c = wrote_nothing c.args.out.now 0
 
 pub loop-i-preserved : goal.loop-i-preserved
-loop-i-preserved c = (omega arith, rw c.store_entry.ensures (wrote_next c.args.list.now c.loop-i.i c.loop-i-test.true c.loop-i.invariant.1))
+loop-i-preserved c = rw c.store_entry.ensures (wrote_next c.args.list.now c.loop-i.i c.loop-i-test.true c.loop-i.invariant)
 
 pub shape_of-out : goal.shape_of-out
-shape_of-out c = c.loop-i.invariant.1.same
+shape_of-out c = c.loop-i.invariant.same
 
 pub returns : goal.returns
-returns c = c.loop-i.invariant.1.list ∙ rw (take_all c.loop-i.i c.args.list.now c.loop-i-test.false)
+returns c = c.loop-i.invariant.list ∙ rw (take_all c.loop-i.i c.args.list.now c.loop-i-test.false)

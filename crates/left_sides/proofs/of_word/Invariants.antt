@@ -1,7 +1,7 @@
 use mathlib.Core.Path.{◌≡◌}
 use mathlib.Core.Bool.{false}
 use mathlib.Core.List.{[]}
-use Prim.Native.Nat.{◌≤◌, ◌-◌}
+use Prim.Native.Nat.{◌≤◌}
 use lib.ListN.{length}
 use Rattle.left_sides.specs.declared.Known.{Known}
 use Rattle.left_sides.proofs.ReadingLaws.{Reading}
@@ -11,8 +11,5 @@ use Rattle.left_sides.proofs.of_word.Given as goal
 abbrev pub outside : Known
 outside = record { names = false; once = false; level = 0; meaning = [] }
 
-abbrev pub invariant-loop-i : goal.invariant-loop-i
-invariant-loop-i l = (l.i ≤ length l.word) × (l.top ≤ l.i) × (length l.waiting ≡ 31) × Reading outside l.word l.i l.waiting l.top
-
-abbrev pub decreases-loop-i : goal.decreases-loop-i
-decreases-loop-i l = length l.word - l.i
+abbrev pub invariant-loop-sign : goal.invariant-loop-sign
+invariant-loop-sign l = (l.top ≤ l.sign-index) × (length l.waiting ≡ 31) × Reading outside l.word l.sign-index l.waiting l.top

@@ -1,12 +1,10 @@
 -- `stands` meets its contract, by what `of_word` says of both words.
 use mathlib.Core.Path.{refl}
-use Rattle.left_sides.proofs.StandsLaws.{stands_is}
+use Rattle.left_sides.proofs.StandsLaws.{side_formula, stands_is}
 use Rattle.left_sides.proofs.stands.Goals as goal
 
+pub returns-in_default-of_word : goal.returns-in_default-of_word
+returns-in_default-of_word c = λ x i e. side_formula x i c.left_side.result (c.left_side.ensures x i e) c.in_default-of_word.ensures
+
 pub returns : goal.returns
-returns c =
-    let side = c.left_side-side in
-    let found = c.of_word-found in
-    let wanted = c.of_word-wanted in
-    let same = c.same in
-    λ x i e. stands_is x i c.args.word.now side.result found.result wanted.result _ same.result (side.ensures x i e) found.ensures wanted.ensures refl same.ensures
+returns c = λ x i e. stands_is x i c.args.word.now c.left_side.result c.in-Some.found c.in-Some-of_word.side _ c.eq-same.result (c.left_side.ensures x i e) c.in-Some.ensures c.in-Some-of_word.ensures refl c.eq-same.ensures

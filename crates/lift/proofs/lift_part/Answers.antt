@@ -17,21 +17,11 @@ from_start list found from to a k e P = rw e P
 pub part_start-from-requires : goal.part_start-from-requires
 part_start-from-requires c = omega (arith, part_length c.requires.ends.3)
 
-pub first_state-state-requires : goal.first_state-state-requires
-first_state-state-requires c =
+pub run-requires-clause-stands : goal.run-requires-clause-stands
+run-requires-clause-stands c =
     let L = c.requires.ends in
-    (_, _, from_start _ _ _ _ _ _ (c.part_start-from.ensures L.0 L.1 L.2 L.3) L.3)
-
-pub run-requires : goal.run-requires
-run-requires c =
-    let L = c.requires.ends in
-    let Q = from_start c.args.list.now c.part_start-from.result L.0 c.args.to L.1 L.2 (c.part_start-from.ensures L.0 L.1 L.2 L.3) L.3 in record {
-      stands = (_, _, stands_first c.copy.ensures c.requires.list_len_bound.0 Q (c.first_state-state.ensures L.1 L.2 Q));
-      nodes_le_most_nodes = (c.requires.list_len_bound.0, omega arith);
-      most_nodes_in_bounds = (omega arith, c.requires.list_len_bound.1);
-      levels_bound = omega (arith, c.requires.levels_le_most_nodes);
-      some_table = c.requires.some_table;
-    }
+    let Q = from_start c.args.list.now c.part_start-from.result L.0 c.args.to L.1 L.2 (c.part_start-from.ensures L.0 L.1 L.2 L.3) L.3 in
+    (_, _, stands_first c.copy.ensures c.requires.list_len_bound.0 Q (c.first_state-state.ensures L.1 L.2 Q))
 
 pub returns : goal.returns
 returns c =

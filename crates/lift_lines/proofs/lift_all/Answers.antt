@@ -1,58 +1,74 @@
-use Rattle.sheet.specs.declared.LineAt.{LineAt}
-use Rattle.lift_lines.proofs.LiftOneLaws.{front_size}
-use mathlib.Core.Path.{refl, ap, ◌∙◌}
+-- `lift_all`: after so many lifts, what is written and what is left to write make up the whole.
+use Rattle.std.proofs.Common.{◌≡◌, Some, rules}
+use mathlib.Core.Path.{ap, ◌∙◌}
 use native.Mathlib.Omega.{arith}
-use Rattle.lift_lines.proofs.LiftAllLaws.{reached_start, reached_turn, reached_next, reached_end}
+use Rattle.sheet.specs.declared.LineAt.{LineAt}
+use Rattle.sheet.specs.declared.Line.TheVariants.{Lift}
+use Rattle.lift_lines.proofs.LiftOneLaws.{front_size}
+use Rattle.lift_lines.proofs.LiftAllLaws.{Reached, reached_start, reached_turn, reached_next, reached_end, same_lift}
 use Rattle.lift_lines.proofs.lift_all.Goals as goal
+use Rattle.lift_lines.proofs.lift_all.Goals.{At-loop, in_default-via-in-Some+in_default, in_default-via-in_default}
 
-pub loop-i-init : goal.loop-i-init
-loop-i-init c =
-    let pre = c.requires in
-    let a = c.args in (omega arith, pre.in_array.1, pre.in_array.2, refl, refl, λ m K t ls w k. reached_start m a.sheet.now t ls a.start a.count a.tree.now a.nodes a.out.now w k)
+-- what is reached from the tree and by the table that `requires` has
+abbrev Here : At-loop → Type 0
+Here a =
+    let p = a.requires in
+    Reached p.some_table.0 a.args.sheet.now p.in_array.0.0 p.count_in_bounds.0.0 a.args.count a.loop.counter a.loop.tree a.loop.progress.nodes a.args.out.now a.loop.out a.loop.at a.loop.progress.next
 
-pub lift_one-done-requires : goal.lift_one-done-requires
-lift_one-done-requires c =
-    let loop-test = c.loop-i-test in
-    let line_at_lem = c.line_at-here in
-    let l = c.loop-i in
-    let p = c.requires in
-    let R = l.invariant.5 p.some_table.0 p.some_table.1 p.in_array.0.0 p.count_in_bounds.0.0 p.in_array.0.1 p.count_in_bounds.0.1 in
-    let T = reached_turn R loop-test.true in
-    let q = c.lift_numbers-asked.ensures T.line.position T.line.levels (ap (λ (x : LineAt). x.line) line_at_lem.ensures ∙ T.read) in
-    record {
-      in_array = ((R.present, R.holds), l.invariant.1, l.invariant.2);
-      lift_room = (record { near = omega (arith, q.0, T.range.position_most); few = omega (arith, q.1, T.range.levels_most); room = omega (arith, R.most, p.count_in_bounds.1, l.invariant.3) }, p.some_table);
-    }
+here : (a : At-loop) → Here a
+here a = let p = a.requires in a.loop.invariant.1 p.some_table.0 p.some_table.1 p.in_array.0.0 p.count_in_bounds.0.0 p.in_array.0.1 p.count_in_bounds.0.1
 
-pub loop-i-preserved : goal.loop-i-preserved
-loop-i-preserved c =
-    let loop-test = c.loop-i-test in
-    let line_at_lem = c.line_at-here in
-    let lift-numbers = c.lift_numbers-asked in
-    let lift-one = c.lift_one-done in
-    let l = c.loop-i in
-    let p = c.requires in
-    let R = l.invariant.5 p.some_table.0 p.some_table.1 p.in_array.0.0 p.count_in_bounds.0.0 p.in_array.0.1 p.count_in_bounds.0.1 in
-    let L = lift-one.ensures p.some_table.0 p.some_table.1 R.present R.holds in
-    let k = lift-one.auto in (
-      omega arith,
-      omega (arith, L.fits, l.invariant.2, k.tree),
-      omega (arith, l.invariant.2, k.tree),
-      k.out ∙ l.invariant.3,
-      k.tree ∙ l.invariant.4,
-      λ m K t ls w a. let S = l.invariant.5 m K t ls w a in
-          let T = reached_turn S loop-test.true in
-          let q = lift-numbers.ensures T.line.position T.line.levels (ap (λ (x : LineAt). x.line) line_at_lem.ensures ∙ T.read) in
-          rw line_at_lem.ensures (reached_next S loop-test.true T (rw (q.0, q.1) at (lift-one.ensures m K S.present S.holds))),
+pub loop-init : goal.loop-init
+loop-init c =
+    let a = c.args in
+    (c.requires.in_array.1, λ m K t ls w k. reached_start m a.sheet.now t ls a.start a.count a.tree.now a.nodes a.out.now w k)
+
+pub unreachable-requires : goal.unreachable-requires
+unreachable-requires c =
+    let T = reached_turn (here (goal.at.unreachable-requires c).At-loop) c.loop-test.true in
+    let read = ap (λ (x : LineAt). x.line) c.line_at-here.ensures ∙ T.read in
+    elim c.in_default.branch [
+      | in_default-via-in-Some+in_default w ↦ search (rules, read)
+      | in_default-via-in_default w ↦ search (rules, read)
+    ]
+
+pub lift_one-progress-requires-clause-in_array : goal.lift_one-progress-requires-clause-in_array
+lift_one-progress-requires-clause-in_array c =
+    let R = here (goal.at.lift_one-progress-requires-clause-in_array c).At-loop in
+    ((R.present, R.holds), c.loop.invariant.0, omega (arith, c.requires.in_array, c.loop.auto.tree))
+
+pub lift_one-progress-requires-clause-lift_room : goal.lift_one-progress-requires-clause-lift_room
+lift_one-progress-requires-clause-lift_room c =
+    let R = here (goal.at.lift_one-progress-requires-clause-lift_room c).At-loop in
+    let T = reached_turn R c.loop-test.true in
+    let lift : c.line_at-here.result.line ≡ Some (Lift c.in-Some-Lift.position c.in-Some-Lift.levels) = search rules in
+    let q = same_lift T _ c.line_at-here.ensures lift in
+    let bytes = c.requires.count_in_bounds.1 in (
+      record {
+        near = omega (arith, c.from.ensures, q.0, T.range.position_most);
+        few = omega (arith, c.from-in-loop.ensures, q.1, T.range.levels_most);
+        room = omega (arith, R.most, bytes, c.loop.auto.out, c.loop-test.true);
+      },
+      c.requires.some_table,
     )
 
-pub shape_of-tree : goal.shape_of-tree
-shape_of-tree c = c.loop-i.invariant.4
-
-pub shape_of-out : goal.shape_of-out
-shape_of-out c = c.loop-i.invariant.3
+pub loop-preserved : goal.loop-preserved
+loop-preserved c =
+    let l = c.loop in
+    let p = c.requires in
+    let R = here (goal.at.loop-preserved c).At-loop in
+    let lift : c.line_at-here.result.line ≡ Some (Lift c.in-Some-Lift.position c.in-Some-Lift.levels) = search rules in
+    let L = c.lift_one-progress.ensures p.some_table.0 p.some_table.1 R.present R.holds in (
+      omega (arith, L.fits, p.in_array, c.lift_one-progress.auto.tree, l.auto.tree),
+      λ m K t ls w a.
+          let S = l.invariant.1 m K t ls w a in
+          let T = reached_turn S c.loop-test.true in
+          let q = same_lift T _ c.line_at-here.ensures lift in
+          rw c.line_at-here.ensures (reached_next S c.loop-test.true T (rw (c.from.ensures, c.from-in-loop.ensures, q.0, q.1) at (c.lift_one-progress.ensures m K S.present S.holds))),
+    )
 
 pub returns : goal.returns
-returns c = λ m K t ls w a. let l = c.loop-i in
-    let R = l.invariant.5 m K t ls w a in
-    reached_end R (omega arith) a.counted (omega (arith, front_size l.tree l.entries R.present R.holds l.invariant.1, R.holds.most))
+returns c = λ m K t ls w a.
+    let l = c.loop in
+    let R = l.invariant.1 m K t ls w a in
+    reached_end R (omega (arith, l.auto.counter-end, c.loop-test.false)) a.counted (omega (arith, front_size l.tree l.progress.nodes R.present R.holds l.invariant.0, R.holds.most))

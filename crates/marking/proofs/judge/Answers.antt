@@ -1,30 +1,23 @@
 -- `judge`: the tables decide equivalence, and `is_gathered` the rest.
+use mathlib.Core.Path.{sym, ◌∙◌}
+use borrow.Author.Tests.{not-true, not-false, eqb-true, eqb-false}
 use Rattle.marking.proofs.MarkLaws.{same_lamps, judged_other, judged_unmarked, judged_gathered, judged_not}
 use Rattle.marking.proofs.judge.Goals as goal
+use Rattle.marking.proofs.judge.Goals.{then-is_empty-via-then-is_empty, then-is_empty-via-else-is_empty+then-is_gathered}
 
-pub returns-then-not-same : goal.returns-then-not-same
-returns-then-not-same c =
-    let table2 = c.table-b in
-    let table = c.table-a in
-    judged_other (same_lamps _ _ table.ensures table2.ensures c.same_rows-same.ensures) _ c.if-not-same.true
+pub returns-then-ne : goal.returns-then-ne
+returns-then-ne c = judged_other (same_lamps _ _ c.table-a.ensures c.table-b.ensures) _ (not-true _ (sym c.ne.ensures ∙ c.if-ne.true))
 
-pub returns-then-marks-eq0 : goal.returns-then-marks-eq0
-returns-then-marks-eq0 c =
-    let table2 = c.table-b in
-    let table = c.table-a in
-    judged_unmarked (same_lamps _ _ table.ensures table2.ensures c.same_rows-same.ensures) _ c.if-not-same.false c.if-marks-eq0.true
-
-pub returns-then-gathered : goal.returns-then-gathered
-returns-then-gathered c =
-    let table2 = c.table-b in
-    let table = c.table-a in
-    judged_gathered (same_lamps _ _ table.ensures table2.ensures c.same_rows-same.ensures) _ c.if-not-same.false
-    c.is_gathered-gathered.ensures c.if-gathered.true
+pub returns-then-is_empty : goal.returns-then-is_empty
+returns-then-is_empty c =
+    let lamps = same_lamps _ _ c.table-a.ensures c.table-b.ensures in
+    let same = not-false _ (sym c.ne.ensures ∙ c.if-ne.false) in
+    elim c.then-is_empty.branch [
+      | then-is_empty-via-then-is_empty w ↦ judged_unmarked lamps _ same (eqb-true _ _ (sym c.is_empty.ensures ∙ w.if-is_empty.true))
+      | then-is_empty-via-else-is_empty+then-is_gathered w ↦ judged_gathered lamps _ same w.is_gathered.ensures w.if-is_gathered.true
+    ]
 
 pub returns : goal.returns
 returns c =
-    let pre = c.requires in
-    let table2 = c.table-b in
-    let table = c.table-a in
-    judged_not (same_lamps _ _ table.ensures table2.ensures c.same_rows-same.ensures) _ c.if-not-same.false
-    c.is_gathered-gathered.ensures c.if-marks-eq0.false pre.1.2 c.if-gathered.false
+    let lamps = same_lamps _ _ c.table-a.ensures c.table-b.ensures in
+    judged_not lamps _ (not-false _ (sym c.ne.ensures ∙ c.if-ne.false)) c.is_gathered.ensures (eqb-false _ _ (sym c.is_empty.ensures ∙ c.if-is_empty.false)) c.requires.1.2 c.if-is_gathered.false

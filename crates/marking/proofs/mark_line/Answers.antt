@@ -1,17 +1,14 @@
--- `mark_line`: each arm is its answer's line.
+-- `mark_line`: a mark has one digit.
+use Rattle.marking.specs.Text.{mark_line_of}
+use Rattle.marking.proofs.TextLaws.{mark_small, mark_fits}
 use Rattle.marking.proofs.mark_line.Goals as goal
 
-pub returns-in-Right : goal.returns-in-Right
-returns-in-Right c = rw c.in-Right.is c.put_mark.ensures
+pub put-requires : goal.put-requires
+put-requires c = rw c.from.ensures (mark_fits _ (mark_small c.in-Ok.verdict))
 
-pub returns-in-OtherLamps : goal.returns-in-OtherLamps
-returns-in-OtherLamps c = rw c.in-OtherLamps.is c.put_mark-in-OtherLamps.ensures
+pub returns-in-Ok : goal.returns-in-Ok
+unfolding mark_line_of
+returns-in-Ok c = rw c.in-Ok.is (rw c.from.ensures at c.put.ensures)
 
-pub returns-in-NotGathered : goal.returns-in-NotGathered
-returns-in-NotGathered c = rw c.in-NotGathered.is c.put_mark-in-NotGathered.ensures
-
-pub returns-in-QuestionRefused : goal.returns-in-QuestionRefused
-returns-in-QuestionRefused c = rw c.in-QuestionRefused.is c.put_refusal.ensures
-
-pub returns-in-CandidateRefused : goal.returns-in-CandidateRefused
-returns-in-CandidateRefused c = rw c.in-CandidateRefused.is c.put_refusal-in-CandidateRefused.ensures
+pub returns-in-Err : goal.returns-in-Err
+returns-in-Err c = rw c.in-Err.is c.put_refusal.ensures

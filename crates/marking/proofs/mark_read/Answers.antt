@@ -1,10 +1,8 @@
 -- `mark_read`: reading's answers hold the two trees, the groups and the marks.
-use mathlib.Core.Path.{◌≡◌, sym}
-use native.Mathlib.Omega.{arith}
-use lib.ListN.{length}
+use mathlib.Core.Path.{sym, ◌∙◌}
 use lib.Seq.{length-take-le}
-use Rattle.marking.proofs.ReadLaws.{sheet_long, marks_long, drawing_long, sheet_listed, drawing_listed, count_few, read_foreign, read_judged}
-use borrow.Author.Rules.{rules}
+use Rattle.tree.proofs.CollectLaws.{some_found}
+use Rattle.marking.proofs.ReadLaws.{sheet_long, marks_long, drawing_long, sheet_listed, drawing_listed, few_groups, read_foreign, read_judged}
 use Rattle.marking.proofs.mark_read.Goals as goal
 
 pub slice_bounds-question-end : goal.slice_bounds-question-end
@@ -19,23 +17,14 @@ slice_bounds-drawn-end c = drawing_long c.requires.4
 pub slice_bounds-foreign_line-end : goal.slice_bounds-foreign_line-end
 slice_bounds-foreign_line-end c = sym (length-take-le _ _ (drawing_long c.requires.4))
 
-pub slice_bounds-groups-end : goal.slice_bounds-groups-end
-slice_bounds-groups-end c =
-    let pre = c.requires in
-    let groups_of = c.groups_of-all in
-    let e : length groups_of.result.list ≡ 8 = search rules in omega (arith, count_few pre.4 groups_of.ensures)
+pub unwrap-found-requires : goal.unwrap-found-requires
+unwrap-found-requires c = some_found _ _ c.groups_of.ensures (few_groups c.requires.4)
 
-pub slice_bounds-foreign_line-end-2 : goal.slice_bounds-foreign_line-end-2
-slice_bounds-foreign_line-end-2 c =
-    let pre = c.requires in
-    let groups_of = c.groups_of-all in
-    let e : length groups_of.result.list ≡ 8 = search rules in sym (length-take-le _ _ (omega (arith, count_few pre.4 groups_of.ensures)))
-
-pub returns-then-line-ne0 : goal.returns-then-line-ne0
-returns-then-line-ne0 c =
-    let foreign-line = c.foreign_line-line in
-    let groups_of = c.groups_of-all in
-    λ question candidate q d B. read_foreign B groups_of.ensures _ foreign-line.ensures c.if-line-ne0.true
+pub returns-in-Some : goal.returns-in-Some
+returns-in-Some c =
+    let line = c.in-Some.ensures in
+    let found = rw c.unwrap-found.ensures at c.groups_of.ensures in
+    λ question candidate q d B. read_foreign B (c.as_slice-groups.ensures.found ∙ found) _ line.1 line.0
 
 pub slice_bounds-question-end-2 : goal.slice_bounds-question-end-2
 slice_bounds-question-end-2 c =
@@ -47,25 +36,13 @@ slice_bounds-judge-end c =
     let pre = c.requires in
     sym (length-take-le _ _ (sheet_long pre.4))
 
-pub slice_bounds-groups-end-2 : goal.slice_bounds-groups-end-2
-slice_bounds-groups-end-2 c =
-    let pre = c.requires in
-    let groups_of = c.groups_of-all in
-    let e : length groups_of.result.list ≡ 8 = search rules in omega (arith, count_few pre.4 groups_of.ensures)
-
-pub slice_bounds-judge-end-2 : goal.slice_bounds-judge-end-2
-slice_bounds-judge-end-2 c =
-    let pre = c.requires in
-    let groups_of = c.groups_of-all in
-    let e : length groups_of.result.list ≡ 8 = search rules in sym (length-take-le _ _ (omega (arith, count_few pre.4 groups_of.ensures)))
-
 pub slice_bounds-marks-end : goal.slice_bounds-marks-end
 slice_bounds-marks-end c =
     let pre = c.requires in
     marks_long pre.4
 
-pub slice_bounds-judge-end-3 : goal.slice_bounds-judge-end-3
-slice_bounds-judge-end-3 c =
+pub slice_bounds-judge-end-2 : goal.slice_bounds-judge-end-2
+slice_bounds-judge-end-2 c =
     let pre = c.requires in
     sym (length-take-le _ _ (marks_long pre.4))
 
@@ -74,8 +51,8 @@ slice_bounds-drawn-end-2 c =
     let pre = c.requires in
     drawing_long pre.4
 
-pub slice_bounds-judge-end-4 : goal.slice_bounds-judge-end-4
-slice_bounds-judge-end-4 c =
+pub slice_bounds-judge-end-3 : goal.slice_bounds-judge-end-3
+slice_bounds-judge-end-3 c =
     let pre = c.requires in
     sym (length-take-le _ _ (drawing_long pre.4))
 
@@ -86,7 +63,5 @@ judge-requires c =
 
 pub returns : goal.returns
 returns c =
-    let groups_of = c.groups_of-all in
-    let foreign-line = c.foreign_line-line in
-    let if1 = c.if-line-ne0 in
-    λ question candidate q d B. read_judged B groups_of.ensures _ _ foreign-line.ensures if1.false c.judge.ensures
+    let found = rw c.unwrap-found.ensures at c.groups_of.ensures in
+    λ question candidate q d B. read_judged B (c.as_slice-groups.ensures.found ∙ found) _ c.in_default.ensures c.judge.ensures

@@ -1,13 +1,11 @@
 -- `ends_line`: past the end there is no LF.
-use native.Mathlib.Omega.{arith}
-use lib.ListN.{drop, length-drop}
-use Rattle.move_table.proofs.LineLaws.{starts_one, starts_none}
+use Rattle.std.proofs.Common.{◌≡◌, length, ◌<◌, ◌≤◌, get_or, false, rules, nat_eq}
+use Rattle.std.specs.Option.{MatchOption}
+use Rattle.move_table.proofs.LineLaws.{starts_at}
 use Rattle.move_table.proofs.ends_line.Goals as goal
 
-pub returns-then-at-bytes : goal.returns-then-at-bytes
-returns-then-at-bytes c = starts_one 10 c.args.bytes.now c.args.at c.if-at-bytes.true
-
-pub returns-else-at-bytes : goal.returns-else-at-bytes
-returns-else-at-bytes c =
-    let args = c.args in
-    starts_none 10 (drop args.at args.bytes.now) (simp length-drop (omega (arith, c.if-at-bytes.false)))
+pub returns : goal.returns
+returns c =
+    let bytes = c.args.bytes.now in
+    let read : MatchOption c.get.result ((length bytes ≤ c.args.at) × (c.eq.result ≡ false)) (λ _. (c.args.at < length bytes) × (c.eq.result ≡ nat_eq (get_or bytes c.args.at 0) 10)) = search rules in
+    starts_at bytes c.args.at c.get.result c.eq.result read

@@ -1,26 +1,14 @@
--- `word_length`: the answer is how many signs the rest begins with, added to the index.
-use mathlib.Core.Path.{sym, ap, ◌∙◌}
-use mathlib.Core.List.{List}
-use Prim.Native.Nat.{ℕ}
-use native.Mathlib.Omega.{arith}
-use lib.ListN.{length, drop_of_length-le}
-use Rattle.move_table.specs.Loading.{signs_in}
-use Rattle.move_table.proofs.LineLaws.{signs_here, signs_end, signs_none}
+-- `word_length`: the first byte that is no sign, or the length, says how many signs the bytes begin with.
+use Rattle.std.proofs.Common.{◌≡◌, ◌<◌, length, get_or, true, false, ℕ, rules}
+use Rattle.std.specs.List.{EachIndex}
+use Rattle.std.specs.Option.{MatchOption}
+use Rattle.words.specs.Word.{sign_of, allowed}
+use Rattle.move_table.proofs.LineLaws.{signs_found}
 use Rattle.move_table.proofs.word_length.Goals as goal
-
-pub loop-i-preserved : goal.loop-i-preserved
-loop-i-preserved c =
-    let loop = c.loop-i in
-    let bytes = c.args.bytes.now in
-    omega (arith, signs_here bytes loop.i c.loop-i-test.true (sym c.is_sign.ensures ∙ c.if-is_sign.true))
-
-pub returns-else-is_sign : goal.returns-else-is_sign
-returns-else-is_sign c =
-    let loop = c.loop-i in
-    let bytes = c.args.bytes.now in
-    omega (arith, signs_end bytes loop.i c.loop-i-test.true (sym c.is_sign.ensures ∙ c.if-is_sign.false))
 
 pub returns : goal.returns
 returns c =
     let bytes = c.args.bytes.now in
-    omega (arith, ap (λ (l : List ℕ). length (signs_in l)) (drop_of_length-le bytes c.loop-i-test.false), signs_none)
+    let found : MatchOption c.position.result (EachIndex bytes (λ k. allowed (sign_of (get_or bytes k 0)) ≡ true))
+    (λ i. (i < length bytes) × ((k : ℕ) → k < i → allowed (sign_of (get_or bytes k 0)) ≡ true) × (allowed (sign_of (get_or bytes i 0)) ≡ false)) = search rules in
+    rw c.unwrap_or.ensures (signs_found bytes c.position.result found)

@@ -1,58 +1,38 @@
--- A fault is answered with its number; without one the bytes suffice and the instructions are right, and the lamps of the register that
--- SHOW names are written.
-use borrow.Author.Rules.{rules}
+-- Without a fault the bytes suffice and the instructions are right, and the lamps of the register that SHOW names are written.
 use mathlib.Core.Path.{◌≡◌, sym, ◌∙◌}
+use mathlib.Core.Bool.{false}
 use mathlib.Core.List.{List}
-use Prim.Native.Nat.{ℕ, ◌+◌, ◌-◌, ◌≤◌}
-use native.Mathlib.Omega.{arith}
+use Prim.Native.Nat.{ℕ, ◌+◌, ◌-◌}
 use lib.ListN.{length, take, get_or}
-use lib.Seq.{length-take-le}
+use Rattle.player.specs.declared.Form.TheVariants.{TwoRegisters}
+use Rattle.player.specs.InnerForms.{CanRun, shown_by}
 use Rattle.player.specs.Patches.{rig}
 use Rattle.player.specs.Playing.{wrong_length}
-use Rattle.player.proofs.PlayingLaws.{Faultless, refused, played, faultless, length_fits}
+use Rattle.player.proofs.PlayingLaws.{lengths_right, check_right, no_fault, played}
 use Rattle.older_player.specs.Instructions.{lit_lamps, instructions}
-use Rattle.older_player.specs.Playing.{most_instructions, wrong_code, play_fault}
+use Rattle.older_player.specs.Playing.{most_instructions, wrong_code}
 use Rattle.older_player.proofs.CodeLaws.{Carried, carried, code_is}
 use Rattle.older_player.proofs.play.Goals as goal
 
-right : (code patch lamps : List ℕ) → play_fault code patch lamps ≡ 0
-    → Faultless (wrong_length most_instructions (length code)) (wrong_code code) patch lamps
-right code patch lamps none = faultless (wrong_length most_instructions (length code)) (wrong_code code) patch lamps none
-
-four : (code patch lamps : List ℕ) → play_fault code patch lamps ≡ 0 → 4 ≤ length code
-four code patch lamps none =
-    let L = length_fits most_instructions (length code) (right code patch lamps none).length_right in
-    omega (arith, L.0, L.2)
-
-split : (code patch lamps : List ℕ) → (none : play_fault code patch lamps ≡ 0) → let F = right code patch lamps none in
-    Carried code (code_is code F.length_right F.code_right) (take (length code - 4) code) (get_or code (length code - 4 + 1) 0)
-split code patch lamps none = carried _ _
-
-pub returns-then-number-ne0 : goal.returns-then-number-ne0
-returns-then-number-ne0 c =
-    let a = c.args in
-    refused _ (lit_lamps (rig a.patch.now) (instructions a.code.now)) _ c.fault-number.result c.fault-number.ensures c.if-number-ne0.true
-
-pub overflow_sub-last : goal.overflow_sub-last
-overflow_sub-last c = four c.args.code.now c.args.patch.now c.args.lamps.now (sym c.fault-number.ensures ∙ c.if-number-ne0.false)
-
-pub bounds-code-last : goal.bounds-code-last
-bounds-code-last c = omega (arith, four c.args.code.now c.args.patch.now c.args.lamps.now (sym c.fault-number.ensures ∙ c.if-number-ne0.false))
-
-pub overflow_cast-shown : goal.overflow_cast-shown
-overflow_cast-shown c = let h = (split c.args.code.now c.args.patch.now c.args.lamps.now (sym c.fault-number.ensures ∙ c.if-number-ne0.false)).can.inside in search rules
-
-pub slice_bounds-write_lamps-end : goal.slice_bounds-write_lamps-end
-slice_bounds-write_lamps-end c = sym (length-take-le _ _ (omega arith))
+split : (code : List ℕ) (long : wrong_length most_instructions (length code) ≡ false) (right : wrong_code code ≡ false)
+    → Carried code (code_is code long right) (take (length code - 4) code) (get_or code (length code - 4 + 1) 0)
+split code long right = carried _ _
 
 pub write_lamps-requires : goal.write_lamps-requires
 write_lamps-requires c =
-    let F = right c.args.code.now c.args.patch.now c.args.lamps.now (sym c.fault-number.ensures ∙ c.if-number-ne0.false) in
-    let C = (split c.args.code.now c.args.patch.now c.args.lamps.now (sym c.fault-number.ensures ∙ c.if-number-ne0.false)).can in
-    (record { low = C.low; high = C.high; right = C.right; inside = omega (arith, C.inside) }, F.count_right, F.patch_right, F.long)
+    let a = c.args in
+    let lengths = lengths_right (wrong_length most_instructions (length a.code.now)) (length a.lamps.now) c.in_ok-check_lengths.ensures in
+    let patch = check_right a.patch.now c.in_ok-check_patch.ensures in
+    let S = split a.code.now lengths.1 (sym c.wrong_code.ensures ∙ c.if-wrong_code.false) in
+    let can : CanRun TwoRegisters (take (length a.code.now - 4) a.code.now) c.from-shown.result = rw c.from-shown.ensures S.can in
+    (can, patch.0, patch.1, lengths.0)
 
 pub returns : goal.returns
 returns c =
     let a = c.args in
-    played _ (lit_lamps (rig a.patch.now) (instructions a.code.now)) _ _ (sym c.fault-number.ensures ∙ c.if-number-ne0.false)
-    (rw (← ((split c.args.code.now c.args.patch.now c.args.lamps.now (sym c.fault-number.ensures ∙ c.if-number-ne0.false)).lit _)) c.write_lamps.ensures)
+    let lengths = lengths_right (wrong_length most_instructions (length a.code.now)) (length a.lamps.now) c.in_ok-check_lengths.ensures in
+    let right = sym c.wrong_code.ensures ∙ c.if-wrong_code.false in
+    let S = split a.code.now lengths.1 right in
+    let lit : shown_by TwoRegisters (take (length a.code.now - 4) a.code.now) c.from-shown.result (rig a.patch.now) ≡ lit_lamps (rig a.patch.now) (instructions a.code.now) =
+    rw c.from-shown.ensures (S.lit (rig a.patch.now)) in
+    played _ _ _ _ (no_fault _ (wrong_code a.code.now) a.patch.now a.lamps.now lengths.0 lengths.1 right c.in_ok-check_patch.ensures) (rw lit at c.write_lamps.ensures)

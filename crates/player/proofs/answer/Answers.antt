@@ -7,13 +7,10 @@ use Rattle.player.proofs.HoldingLaws.{new_set, holds_empty}
 use Rattle.player.proofs.PlaceLaws.{no_place}
 use Rattle.player.proofs.answer.Goals as goal
 
-pub load_groups-requires : goal.load_groups-requires
-load_groups-requires c =
+pub invariant_of-groups : goal.invariant_of-groups
+invariant_of-groups c = record { indexed = (no_place (last_group + 1) place_count new_set refl refl holds_empty).indexed }
+
+pub load-requires : goal.load-requires
+load-requires c =
     let pre = c.requires in
-    (pre.1, pre.2, no_place (last_group + 1) place_count new_set refl refl holds_empty)
-
-pub execute-requires : goal.execute-requires
-execute-requires c = (c.requires.0, c.load_groups.ensures.0)
-
-pub returns : goal.returns
-returns c = c.execute.ensures _ c.load_groups.ensures.1
+    (pre.1, pre.2, no_place (last_group + 1) place_count new_set refl refl holds_empty, refl)

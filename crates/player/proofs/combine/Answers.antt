@@ -10,17 +10,14 @@ use Rattle.player.proofs.combine.Goals as goal
 
 pub loop-i-preserved : goal.loop-i-preserved
 loop-i-preserved c =
-    let kind = c.args.kind in
     let v = c.loop-i in (
-      omega arith,
-      simp length-set v.invariant.1,
-      λ f g x y. written (λ k word-k. k < v.i + 1 → word-k ≡ word (combined (operation_with kind) f g) (word_width * k + 1)) v.words v.i c.combine_words.result 0
+      simp length-set v.invariant.0,
+      λ f g x y. written (λ k word-k. k < v.i + 1 → word-k ≡ word (combined (operation_with c.args.kind) f g) (word_width * k + 1)) v.word-items v.i _ 0
           (omega arith)
           (λ _. c.combine_words.ensures f g (word_width * v.i + 1) (x.entry v.i (omega arith)) (y.entry v.i (omega arith)))
-          (λ k n lt. v.invariant.2 f g x y k (omega arith)),
+          (λ k n lt. v.invariant.1 f g x y k (omega arith)),
     )
 
 pub returns : goal.returns
 returns c f g x y =
-    let v = c.loop-i in
-    record { size = v.invariant.1; entry = λ k lt. v.invariant.2 f g x y k (omega arith) }
+    record { size = c.loop-i.invariant.0; entry = λ k lt. c.loop-i.invariant.1 f g x y k (omega arith) }

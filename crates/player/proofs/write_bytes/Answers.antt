@@ -1,27 +1,23 @@
--- The loop's invariant: the bytes from i to 63 are written, and the others are as they were.
-use mathlib.Core.Path.{◌≡◌, refl, sym, ◌∙◌}
-use mathlib.Core.List.{List}
-use Prim.Native.Nat.{ℕ, ◌-◌}
+-- The loop's invariant: the bytes of the words passed are written, and the others are as they were.
+use mathlib.Core.Path.{◌≡◌, refl, ◌∙◌}
+use Prim.Native.Nat.{◌+◌, ◌*◌}
 use native.Mathlib.Omega.{arith}
-use lib.ListN.{drop, length-set, take-append-drop}
 use Rattle.player.specs.Bytes.{bytes_from}
-use Rattle.player.proofs.PackingLaws.{byte_written}
+use Rattle.player.proofs.PackingLaws.{word_bytes, word_written}
 use Rattle.player.proofs.write_bytes.Goals as goal
 
 pub loop-i-init : goal.loop-i-init
 unfolding bytes_from
-loop-i-init c = (λ f held. sym (take-append-drop 64 c.args.lamps.now), omega arith, refl)
+loop-i-init c f held = refl
 
 pub loop-i-preserved : goal.loop-i-preserved
-loop-i-preserved c =
-    let old : List ℕ = c.args.lamps.now in
-    let v = c.loop-i in (
-      λ f held. rw (v.invariant.0 f held) (byte_written f c.args.words held old (drop 64 old) (v.i - 1) v.i (omega arith) (omega arith) (omega arith)),
-      omega arith,
-      simp length-set v.invariant.2,
-    )
+loop-i-preserved c f held =
+    let v = c.loop-i in
+    let word : c.copy_from_slice.new.self ≡ bytes_from f (64 * v.i + 1) 8 =
+    c.copy_from_slice.ensures.after ∙ c.to_le_bytes.ensures ∙ rw (held.entry v.i (omega arith)) (word_bytes f (64 * v.i + 1)) in
+    word_written f c.args.lamps.now v.lamps _ v.i _ (omega arith) (omega arith) (omega arith) (v.invariant f held) word
 
 pub returns : goal.returns
 returns c f held =
-    let z : c.loop-i.i ≡ 0 = omega arith in
-    c.loop-i.invariant.0 f held ∙ rw z
+    let all : c.loop-i.i ≡ 8 = omega arith in
+    rw all at (c.loop-i.invariant f held)

@@ -1,35 +1,14 @@
--- As wrong_code, by pairs.
-use mathlib.Core.Path.{◌≡◌, refl, sym, ◌∙◌}
-use mathlib.Core.Bool.{true, false}
-use mathlib.Core.List.{List}
-use Prim.Native.Nat.{ℕ, ◌+◌}
-use native.Mathlib.Omega.{arith}
-use lib.ListN.{get_or, drop, length-drop}
+-- Some pair is wrong exactly if the patch is.
+use mathlib.Core.Path.{◌∙◌}
+use borrow.Author.Rules.{rules}
+use Rattle.std.proofs.Common.{tests}
+use Rattle.std.proofs.lemmas.Iterator.{YieldsList-from_slice}
+use Rattle.std.proofs.lemmas.Iterator.Search.{any_from_yields_List}
 use Rattle.player.specs.Playing.{wrong_pair}
-use Rattle.player.proofs.ListLaws.{patch_hit, patch_miss, patch_end}
+use Rattle.player.proofs.ListLaws.{of_pair, chunks_of, any_patch}
 use Rattle.player.proofs.wrong_patch.Goals as goal
-
-pub loop-at-init : goal.loop-at-init
-loop-at-init c = (omega arith, refl)
-
-pub returns-then-wrong_pair : goal.returns-then-wrong_pair
-returns-then-wrong_pair c =
-    let args = c.args in
-    let l : List ℕ = args.patch.now in
-    let v = c.loop-at in
-    let hit : wrong_pair (get_or l v.at 0) (get_or l (v.at + 1) 0) ≡ true = cc in
-    sym (v.invariant.1 ∙ patch_hit l v.at (v.at + 2) refl (omega arith) hit)
-
-pub loop-at-preserved : goal.loop-at-preserved
-loop-at-preserved c =
-    let args = c.args in
-    let l : List ℕ = args.patch.now in
-    let v = c.loop-at in
-    let miss : wrong_pair (get_or l v.at 0) (get_or l (v.at + 1) 0) ≡ false = cc in
-    (omega arith, v.invariant.1 ∙ patch_miss l v.at (v.at + 2) refl (omega arith) miss)
 
 pub returns : goal.returns
 returns c =
-    let args = c.args in
-    let v = c.loop-at in
-    sym (v.invariant.1 ∙ patch_end (drop v.at args.patch.now) (simp length-drop (omega arith)))
+    any_from_yields_List (of_pair wrong_pair) _ _ _ c.any.ensures.ran (YieldsList-from_slice (chunks_of 2 c.args.patch.now) cc) (λ x b q k. search (rules, tests))
+    ∙ any_patch c.args.patch.now

@@ -1,30 +1,15 @@
-use native.Mathlib.Omega.{arith}
-use lib.ListN.{drop, length-drop}
-use Rattle.printing.proofs.PrintingLaws.{up_to_start, up_to_next, up_to_end, code_text, code_text_next, code_room, code_text_end}
+-- Each four numbers are one line more; the rest of fewer than four has none.
+use Rattle.printing.proofs.PrintingLaws.{up_to_start, up_to_next, up_to_room, up_to_end, text_left_all, text_left_next, text_left_end}
 use Rattle.printing.proofs.put_code.Goals as goal
 
-pub loop-i-init : goal.loop-i-init
-loop-i-init c = (omega arith, up_to_start (code_text c.args.device c.args.code.now) c.args.out.now c.args.at)
+pub loop-four-init : goal.loop-four-init
+loop-four-init c = rw (text_left_all c.args.device c.args.code.now c.as_chunks.ensures.front) (up_to_start _ c.args.out.now c.args.at)
 
 pub put_one-next-requires : goal.put_one-next-requires
-put_one-next-requires c =
-    let args = c.args in
-    let pre = c.requires in
-    let loop = c.loop-i in
-    let loop-test = c.loop-i-test in
-    code_room args.device args.code.now loop.i loop-test.true loop.invariant.1 pre
+put_one-next-requires c = up_to_room _ _ _ (text_left_next c.args.device _ _ c.loop-four-test.true) c.loop-four.invariant c.requires
 
-pub loop-i-preserved : goal.loop-i-preserved
-loop-i-preserved c =
-    let args = c.args in
-    let loop = c.loop-i in
-    let loop-test = c.loop-i-test in
-    (omega arith, up_to_next _ (code_text_next args.device args.code.now loop.i loop-test.true) loop.invariant.1 c.put_one-next.ensures)
-
-pub shape_of-out : goal.shape_of-out
-shape_of-out c = c.loop-i.invariant.1.wrote.same
+pub loop-four-preserved : goal.loop-four-preserved
+loop-four-preserved c = up_to_next _ (text_left_next c.args.device _ _ c.loop-four-test.true) c.loop-four.invariant c.put_one-next.ensures
 
 pub returns : goal.returns
-returns c =
-    let args = c.args in
-    up_to_end _ (code_text_end args.device (drop c.loop-i.i args.code.now) (simp length-drop (omega arith))) c.loop-i.invariant.1
+returns c = up_to_end _ (text_left_end c.args.device _ _ c.loop-four-test.false) c.loop-four.invariant

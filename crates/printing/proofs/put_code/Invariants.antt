@@ -1,10 +1,6 @@
-use Prim.Native.Nat.{◌-◌, ◌≤◌}
-use lib.ListN.{length, drop}
-use Rattle.printing.proofs.PrintingLaws.{WroteUpTo, code_text}
+-- What is written so far and what is left make up the whole.
+use Rattle.printing.proofs.PrintingLaws.{WroteUpTo, code_text, text_left}
 use Rattle.printing.proofs.put_code.Given as goal
 
-abbrev pub invariant-loop-i : goal.invariant-loop-i
-invariant-loop-i l = (l.i ≤ length l.code) × WroteUpTo (code_text l.device l.code) (code_text l.device (drop l.i l.code)) l.initial.out l.at l.out l.next
-
-abbrev pub decreases-loop-i : goal.decreases-loop-i
-decreases-loop-i l = length l.code - l.i
+abbrev pub invariant-loop-four : goal.invariant-loop-four
+invariant-loop-four l = WroteUpTo (code_text l.device l.code) (text_left l.device l.fours l.four-index) l.initial.out l.at l.out l.next

@@ -12,11 +12,11 @@ put_entries-next-requires c =
     let put-decimal = c.put_decimal-first in
     (c.requires.2, omega (arith, put-decimal.ensures.ends, put-decimal.ensures.same, index_few c.args.index c.requires.0, c.requires.1))
 
-pub put_byte-count-requires : goal.put_byte-count-requires
-put_byte-count-requires c =
+pub write_one-count-requires : goal.write_one-count-requires
+write_one-count-requires c =
     let put-decimal = c.put_decimal-first in
     let put_entries = c.put_entries-next in
     omega (arith, put-decimal.ensures.ends, put-decimal.ensures.same, put_entries.ensures.0, put_entries.ensures.1.same, index_few c.args.index c.requires.0, c.requires.1)
 
 pub returns : goal.returns
-returns c = let W = wrote_then (wrote_then c.put_decimal-first.ensures c.put_entries-next.ensures.1) c.put_byte-count.ensures in put_in_line (omega (arith, c.put_decimal-first.ensures.ends, c.put_entries-next.ensures.0, c.put_byte-count.ensures.ends, index_few c.args.index c.requires.0, c.requires.1)) (wrote_as W (line_written c.args.index c.args.list.now))
+returns c = let W = wrote_then (wrote_then c.put_decimal-first.ensures c.put_entries-next.ensures.1) c.write_one-count.ensures in put_in_line (omega (arith, c.put_decimal-first.ensures.ends, c.put_entries-next.ensures.0, c.write_one-count.ensures.ends, index_few c.args.index c.requires.0, c.requires.1)) (wrote_as W (line_written c.args.index c.args.list.now))

@@ -1,29 +1,29 @@
-use mathlib.Core.Path.{sym, ◌∙◌}
+use mathlib.Core.Path.{sym, ap, ◌∙◌}
 use native.Mathlib.Omega.{arith}
 use Rattle.free_tables.proofs.SearchLaws.{failing_turn, failing_stop, failing_end}
-use Rattle.free_tables.specs.InnerTables.{table_of}
-use Rattle.splits.proofs.SplitLaws.{top_start, refused_is}
+use Rattle.splits.specs.InnerSplits.{form_of}
+use Rattle.splits.proofs.SplitLaws.{forms_at, top_start, refused_is}
 use Rattle.splits.proofs.first_top.Goals as goal
 
-pub loop-i-init : goal.loop-i-init
-loop-i-init c = (omega arith, top_start _ _)
+pub loop-form-init : goal.loop-form-init
+loop-form-init c = top_start _ _
 
-pub allowed_top-good-requires : goal.allowed_top-good-requires
-allowed_top-good-requires c = c.requires
-
-pub returns-then-good : goal.returns-then-good
-returns-then-good c =
+pub returns-then-allowed_top : goal.returns-then-allowed_top
+returns-then-allowed_top c =
     let args = c.args in
-    let loop = c.loop-i in
-    let here = refused_is args.m (table_of args.on.now args.off.now) loop.i c.form_of-form.ensures c.allowed_top-good.ensures c.if-good.true in
-    sym (failing_stop _ loop.i _ c.loop-i-test.true here) ∙ loop.invariant.1
+    let loop = c.loop-form in
+    let here = forms_at loop.form-index c.loop-form-test.true in
+    let stops = sym loop.invariant ∙ failing_stop _ loop.form-index _ c.loop-form-test.true (refused_is args.m args.table.now loop.form-index here c.allowed_top.ensures c.if-allowed_top.true) in
+    (omega (arith, stops, c.loop-form-test.true), here ∙ ap form_of (sym stops))
 
-pub loop-i-preserved : goal.loop-i-preserved
-loop-i-preserved c =
+pub loop-form-preserved : goal.loop-form-preserved
+loop-form-preserved c =
     let args = c.args in
-    let loop = c.loop-i in
-    let here = refused_is args.m (table_of args.on.now args.off.now) loop.i c.form_of-form.ensures c.allowed_top-good.ensures c.if-good.false in
-    (omega arith, sym (failing_turn _ loop.i _ c.loop-i-test.true here) ∙ loop.invariant.1)
+    let loop = c.loop-form in
+    let here = refused_is args.m args.table.now loop.form-index (forms_at loop.form-index c.loop-form-test.true) c.allowed_top.ensures c.if-allowed_top.false in
+    sym (failing_turn _ loop.form-index _ c.loop-form-test.true here) ∙ loop.invariant
 
 pub returns : goal.returns
-returns c = sym (failing_end _ c.loop-i.i _ c.loop-i-test.false) ∙ c.loop-i.invariant.1
+returns c =
+    let loop = c.loop-form in
+    sym loop.invariant ∙ failing_end _ loop.form-index _ c.loop-form-test.false ∙ omega arith

@@ -1,20 +1,28 @@
 -- `carry_out` meets its contract: the word of the entry is written in place of the stretch.
+use mathlib.Core.Path.{sym, ◌∙◌}
 use native.Mathlib.Omega.{arith}
-use Rattle.step.proofs.UnderLaws.{part_range}
+use Rattle.std.proofs.lemmas.Result.{err_from_is_err_and}
+use Rattle.step.proofs.UnderLaws.{part_range, none_given, some_given}
 use Rattle.step.proofs.StepAnswerLaws.{within, too_long, ends_within, step_done}
 use Rattle.step.proofs.carry_out.Goals as goal
 
-pub replace-requires : goal.replace-requires
-replace-requires c = let P = c.requires in let C = P.carries_some.3 in let w = part_range C.plan.stretch in record { within = within C.plan (part_range C.stands.part); whole_le_end = (w.low, w.high); list_len_bound = (P.list_len_bound.0, P.list_len_bound.1); word_len_bound = P.list_len_bound.2 }
+pub replace-requires-clause-within : goal.replace-requires-clause-within
+replace-requires-clause-within c = let C = c.requires.carries_some.3 in within C.plan (part_range C.stands.part)
 
-pub overflow_sub-next : goal.overflow_sub-next
-overflow_sub-next c = let C = c.requires.carries_some.3 in omega (arith, c.requires.carries_some.3.stands.part.ends)
+pub replace-requires-clause-old_within : goal.replace-requires-clause-old_within
+replace-requires-clause-old_within c = part_range c.requires.carries_some.3.plan.stretch
 
-pub overflow_add-next : goal.overflow_add-next
-overflow_add-next c = let C = c.requires.carries_some.3 in omega (arith, ends_within c.requires.carries_some.3.plan c.requires.carries_some.3.stands c.requires.carries_some.3.its_word c.replace.ensures c.in-Done.is)
+pub returns-in_err-made : goal.returns-in_err-made
+returns-in_err-made c = λ m a k C.
+    let n = none_given c.replace.result _ _ (sym c.ok_or.ensures.value ∙ c.in_err-made.was) in
+    let p = err_from_is_err_and c.from_residual.result c.from_residual.ensures.1 in
+    rw (p.1, p.2, n.1) (too_long C.plan C.stands C.its_word c.replace.ensures n.0)
 
-pub returns-in-TooLong : goal.returns-in-TooLong
-returns-in-TooLong c = λ m a k C. too_long C.plan C.stands C.its_word c.replace.ensures c.in-TooLong.is
+pub overflow_add-part : goal.overflow_add-part
+overflow_add-part c =
+    let C = c.requires.carries_some.3 in
+    omega (arith, ends_within C.plan C.stands C.its_word c.replace.ensures _ (some_given c.replace.result _ _ (sym c.ok_or.ensures.value ∙ c.in_ok-made.was)))
 
-pub returns-in-Done : goal.returns-in-Done
-returns-in-Done c = λ m a k C. step_done C.plan C.stands C.its_word c.replace.ensures c.in-Done.is c.next_state.result c.next_state.ensures
+pub returns : goal.returns
+returns c = λ m a k C.
+    step_done C.plan C.stands C.its_word c.replace.ensures _ (some_given c.replace.result _ _ (sym c.ok_or.ensures.value ∙ c.in_ok-made.was)) c.next_state-state.result c.next_state-state.ensures

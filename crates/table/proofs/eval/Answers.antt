@@ -7,15 +7,8 @@ use Rattle.table.proofs.eval.Goals as goal
 pub loop-i-init : goal.loop-i-init
 loop-i-init c = (omega arith, omega arith, refl, λ t groups e p. evaluating_start e)
 
--- here and below: a leaf's place is one of a row's bits, or the bit after them
-pub overflow_cast-leaf : goal.overflow_cast-leaf
-overflow_cast-leaf c = omega (arith, (c.requires.2.1.each _ c.loop-i-test.true).small)
-
-pub overflow_shr-leaf : goal.overflow_shr-leaf
-overflow_shr-leaf c = omega (arith, (c.requires.2.1.each _ c.loop-i-test.true).small)
-
-pub loop-i-preserved-then-next-eq0 : goal.loop-i-preserved-then-next-eq0
-loop-i-preserved-then-next-eq0 c =
+pub loop-i-preserved-in_default : goal.loop-i-preserved-in_default
+loop-i-preserved-in_default c =
     let pre = c.requires in
     let loop = c.loop-i in
     let less = c.loop-i-test.true in (
@@ -25,12 +18,12 @@ loop-i-preserved-then-next-eq0 c =
       λ t groups e p. evaluating_leaf (loop.invariant.3 t groups e p) _ less c.if-x-lt-UNION.true (omega arith) ((p.each loop.i less).says _ pre.1),
     )
 
-pub loop-i-preserved-else-next-eq0 : goal.loop-i-preserved-else-next-eq0
-loop-i-preserved-else-next-eq0 c =
+pub loop-i-preserved-in-Some : goal.loop-i-preserved-in-Some
+loop-i-preserved-in-Some c =
     let pre = c.requires in
     let loop = c.loop-i in
     let less = c.loop-i-test.true in
-    let next = c.operator_at-next.ensures c.if-next-eq0.false in (
+    let next = c.in-Some.ensures in (
       omega (arith, next.0),
       omega arith,
       loop.invariant.2,

@@ -1,12 +1,8 @@
 use mathlib.Core.Path.{◌≡◌}
-use Prim.Native.Nat.{ℕ, ◌≤◌, ◌<◌, ◌-◌}
+use Prim.Native.Nat.{ℕ, ◌<◌}
 use lib.ListN.{length, get_or}
 use Rattle.table.specs.InnerTable.{IsPlace}
 use Rattle.table.proofs.places.Given as goal
 
 abbrev pub invariant-loop-i : goal.invariant-loop-i
-invariant-loop-i l =
-    (l.i ≤ length l.list) × (length l.places ≡ 8191) × ((k : ℕ) → k < l.i → IsPlace l.groups (get_or l.list k 0) (get_or l.places k 0))
-
-abbrev pub decreases-loop-i : goal.decreases-loop-i
-decreases-loop-i l = length l.list - l.i
+invariant-loop-i l = (length l.places ≡ 8191) × ((k : ℕ) → k < l.i → IsPlace l.groups (get_or l.list k 0) (get_or l.places k 0))

@@ -4,5 +4,5 @@ use Rattle.text.proofs.put_field.Goals as goal
 
 pub returns : goal.returns
 returns c =
-    let put_byte = c.put_byte-next in
-    wrote_then put_byte.ensures c.put_decimal.ensures
+    let write_one = c.write_one-next in
+    wrote_then write_one.ensures c.put_decimal.ensures

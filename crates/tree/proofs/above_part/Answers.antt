@@ -4,27 +4,18 @@ use native.Mathlib.Omega.{arith}
 use Rattle.tree.proofs.PartLaws.{part_length, is_root, is_left, is_right}
 use Rattle.tree.proofs.above_part.Goals as goal
 
-pub scan_onward-p-requires : goal.scan_onward-p-requires
-scan_onward-p-requires c = omega (arith, part_length c.requires.2)
+pub scan_onward-requires : goal.scan_onward-requires
+scan_onward-requires c = omega (arith, part_length c.requires.2)
 
-pub overflow_add-result : goal.overflow_add-result
-overflow_add-result c = omega (arith, c.operator_kind-k.ensures.1)
+pub returns-in_err-place : goal.returns-in_err-place
+returns-in_err-place c = λ a k P. rw c.from_residual.ensures (is_root c.args.part a k P c.in_err-place.ensures)
 
-pub returns-then-p-to : goal.returns-then-p-to
-returns-then-p-to c =
-    let if1 = c.if-p-list in
-    let g = c.args in
-    let p = c.scan_onward-p in
-    λ a k P. is_right g.list.now g.from g.to p.result c.scan_backward-s.result a k P
-    p.ensures if1.true c.if-p-to.true c.scan_backward-s.ensures c.operator_kind-k.result c.operator_kind-k.ensures.0
+pub returns-then-place-part : goal.returns-then-place-part
+returns-then-place-part c =
+    let found = c.in_ok-place.ensures in
+    λ a k P. is_right c.args.part _ _ a k P found.0 found.1 c.if-place-part.true c.scan_backward-from.ensures _ c.operand_of.ensures
 
-pub returns-else-p-to : goal.returns-else-p-to
-returns-else-p-to c =
-    let if1 = c.if-p-list in
-    let g = c.args in
-    let p = c.scan_onward-p in
-    λ a k P. is_left g.list.now g.from g.to p.result a k P p.ensures if1.true c.if-p-to.false c.operator_kind-k.result c.operator_kind-k.ensures.0
-
-pub returns-else-p-list : goal.returns-else-p-list
-returns-else-p-list c = let g = c.args in
-    λ a k P. is_root g.list.now g.from g.to c.scan_onward-p.result a k P c.scan_onward-p.ensures c.if-p-list.false
+pub returns : goal.returns
+returns c =
+    let found = c.in_ok-place.ensures in
+    λ a k P. is_left c.args.part _ a k P found.0 found.1 c.if-place-part.false _ c.operand_of-2.ensures

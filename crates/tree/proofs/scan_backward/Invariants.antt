@@ -6,7 +6,4 @@ use Rattle.tree.specs.InnerScan.{backward}
 use Rattle.tree.proofs.scan_backward.Given as goal
 
 abbrev pub invariant-loop-i : goal.invariant-loop-i
-invariant-loop-i l = (l.i ≤ length l.list) × (0 < l.operands) × (l.operands + l.i ≤ length l.list + 1) × (backward l.operands (reverse (take l.i l.list)) ≡ backward 1 (reverse (take l.to l.list)))
-
-abbrev pub decreases-loop-i : goal.decreases-loop-i
-decreases-loop-i l = l.i
+invariant-loop-i l = (0 < l.operands) × (l.operands + l.i ≤ length l.list + 1) × (backward l.operands (reverse (take l.i l.list)) ≡ backward 1 (reverse (take l.to l.list)))

@@ -1,6 +1,7 @@
 -- `above_a` meets its contract: the signs after A make the frames above it (AboveLaws).
-use Rattle.words.proofs.AboveLaws.{two_frames}
+use borrow.Author.Rules.{rules}
+use Rattle.words.proofs.AboveLaws.{frames_found}
 use Rattle.words.proofs.above_a.Goals as goal
 
 pub returns : goal.returns
-returns c = two_frames c.place_of_a.ensures.signs_after c.frame_after-own.ensures c.frame_after-parent.ensures
+returns c = frames_found _ c.place_of_a.ensures.signs_after c.frame_after-own.result c.and_then-parent.result c.frame_after-own.ensures (search rules) (search rules) (search rules)

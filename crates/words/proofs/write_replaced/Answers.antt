@@ -1,57 +1,43 @@
 -- `write_replaced` meets its contract: three writings, one after another.
-use mathlib.Core.Path.{sym, ap}
+use mathlib.Core.Path.{ap}
 use mathlib.Core.List.{List, ◌++◌}
-use Prim.Native.Nat.{ℕ}
+use Prim.Native.Nat.{ℕ, ◌≤◌}
 use native.Mathlib.Omega.{arith}
-use lib.ListN.{take}
+use lib.ListN.{length, take}
 use lib.Seq.{length-take-le}
 use Rattle.tree.proofs.WritingLaws.{wrote_then, wrote_as}
 use Rattle.words.specs.InnerWords.{spell, replaced}
 use Rattle.words.proofs.ReplaceLaws.{rest_of, replaced_length}
 use Rattle.words.proofs.write_replaced.Goals as goal
 
-pub slice_bounds-copy-end : goal.slice_bounds-copy-end
-slice_bounds-copy-end c = sym (length-take-le c.args.whole c.args.list.now (omega (arith, c.requires.whole_le_end)))
-
+-- how much is written first, and in all
 pub copy-first-requires : goal.copy-first-requires
-copy-first-requires c = omega (
-  arith,
-  length-take-le c.args.whole c.args.list.now (omega (arith, c.requires.whole_le_end)),
-  c.requires,
-  replaced_length c.args.list.now c.args.from c.args.to c.args.word.now c.args.whole c.args.end c.requires.whole_le_end.0 c.requires.whole_le_end.1,
-)
+copy-first-requires c =
+    let g = c.args in
+    let within = c.requires.old_within in
+    let h : g.old.from ≤ length g.list.now = omega (arith, within.low, within.high) in
+    omega (arith, length-take-le g.old.from g.list.now h, c.requires.end_in_bounds, replaced_length g.list.now g.parts g.word.now g.old within)
 
-pub write_word-second-requires : goal.write_word-second-requires
-write_word-second-requires c = let k = c.copy-first in record {
-  within = c.requires.within;
-  word_in_bounds = omega (
-    arith,
-    k.ensures.ends,
-    k.ensures.same,
-    length-take-le c.args.whole c.args.list.now (omega (arith, c.requires.whole_le_end)),
-    c.requires,
-    replaced_length c.args.list.now c.args.from c.args.to c.args.word.now c.args.whole c.args.end c.requires.whole_le_end.0 c.requires.whole_le_end.1,
-  );
-}
+pub write_word-second-requires-clause-word_in_bounds : goal.write_word-second-requires-clause-word_in_bounds
+write_word-second-requires-clause-word_in_bounds c =
+    let g = c.args in
+    let within = c.requires.old_within in
+    let h : g.old.from ≤ length g.list.now = omega (arith, within.low, within.high) in
+    let first = c.copy-first.ensures in
+    omega (arith, first.ends, first.same, length-take-le g.old.from g.list.now h, c.requires.end_in_bounds, replaced_length g.list.now g.parts g.word.now g.old within)
 
 pub copy-requires : goal.copy-requires
-copy-requires c = let k = c.copy-first in
-    let w = c.write_word-second in
-    omega (
-      arith,
-      k.ensures.ends,
-      k.ensures.same,
-      w.ensures.ends,
-      w.ensures.same,
-      length-take-le c.args.whole c.args.list.now (omega (arith, c.requires.whole_le_end)),
-      c.requires,
-      replaced_length c.args.list.now c.args.from c.args.to c.args.word.now c.args.whole c.args.end c.requires.whole_le_end.0 c.requires.whole_le_end.1,
-    )
+copy-requires c =
+    let g = c.args in
+    let within = c.requires.old_within in
+    let h : g.old.from ≤ length g.list.now = omega (arith, within.low, within.high) in
+    let first = c.copy-first.ensures in
+    let second = c.write_word-second.ensures in
+    omega (arith, first.ends, first.same, second.ends, second.same, length-take-le g.old.from g.list.now h, c.requires.end_in_bounds, replaced_length g.list.now g.parts g.word.now g.old within)
 
 pub returns : goal.returns
 unfolding replaced
 returns c =
-    let copy = c.copy-first in
-    let write_word = c.write_word-second in
-    wrote_as (wrote_then copy.ensures (wrote_then write_word.ensures c.copy.ensures))
-    (ap (λ (x : List ℕ). take c.args.whole c.args.list.now ++ (spell c.args.list.now c.args.from c.args.to c.args.word.now ++ x)) (rest_of c.args.list.now c.args.end c.requires.whole_le_end.1))
+    let g = c.args in
+    wrote_as (wrote_then c.copy-first.ensures (wrote_then c.write_word-second.ensures c.copy.ensures))
+    (ap (λ (x : List ℕ). take g.old.from g.list.now ++ (spell g.list.now g.parts g.word.now ++ x)) (rest_of g.list.now g.old.to c.requires.old_within.high))

@@ -1,11 +1,7 @@
-use Prim.Native.Nat.{◌-◌, ◌≤◌}
-use lib.ListN.{length, take}
+use lib.ListN.{take}
 use Rattle.tree.specs.InnerWriting.{Wrote}
 use Rattle.words.specs.InnerWords.{spell}
 use Rattle.words.proofs.write_word.Given as goal
 
-abbrev pub invariant-loop-i : goal.invariant-loop-i
-invariant-loop-i l = (l.i ≤ length l.word) × Wrote l.initial.out l.at l.out l.next (spell l.list l.from l.to (take l.i l.word))
-
-abbrev pub decreases-loop-i : goal.decreases-loop-i
-decreases-loop-i l = length l.word - l.i
+abbrev pub invariant-loop-sign : goal.invariant-loop-sign
+invariant-loop-sign l = Wrote l.initial.out l.at l.out l.next (spell l.list l.parts (take l.sign-index l.word))
