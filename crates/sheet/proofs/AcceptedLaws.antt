@@ -7,7 +7,7 @@ use mathlib.Core.List.{List, [], ◌∷◌, ◌++◌}
 use mathlib.Core.Option.{some}
 use Prim.Native.Nat.{ℕ, zero, suc, ◌+◌, ◌≤◌, ◌<◌}
 use native.Mathlib.Omega.{arith}
-use borrow.Author.Tests.{eqb-true, ltb-true, ltb-false}
+use borrow.Author.Tests.{eqb-true, eqb-false, ltb-true, ltb-false}
 use lib.Dec.{eqb, ltb}
 use lib.ListN.{length, replicate, take, drop, length-append}
 use Rattle.tree.specs.Tree.{Tree, most_nodes, most_group, postfix, size, is_in, collect, groups, leaves, most_groups}
@@ -212,6 +212,34 @@ accepted_short s st e = go (ltb most_bytes (length s)) refl e
     go : (b : Bool) → ltb most_bytes (length s) ≡ b → cond b (refused 1 0) (read_lines sheet_rules nothing_read 0 0 (split line_feed s)) ≡ accepted st → length s ≤ most_bytes
     go true q e = no_outcome e
     go false q e = ltb-false most_bytes (length s) q
+
+-- ---- a refusal's number is not 0, by whatever rules
+refused_line : (o : ReadingOutcome) (f n number line : ℕ) → cond (eqb f 0) o (refused f n) ≡ refused number line
+    → (o ≡ refused number line → number ≡ 0 → ⊥) → number ≡ 0 → ⊥
+refused_line o f n number line e later z = go (eqb f 0) refl e
+  where
+    go : (b : Bool) → eqb f 0 ≡ b → cond b o (refused f n) ≡ refused number line → ⊥
+    go true q e = later e z
+    go false q e = let r : f ≡ number = cc in eqb-false f 0 q (r ∙ z)
+
+refused_lines : (rules : Rules) (ps : Parts) (st : ReadingState) (n at number line : ℕ) → read_lines rules st n at ps ≡ refused number line → number ≡ 0 → ⊥
+unfolding read_lines
+refused_lines rules (last l) st n at number line e z = go (eqb (length l) 0) (eqb st.phase ended) e
+  where
+    go : (a b : Bool) → cond a (cond b (accepted st) (refused 10 (n + 1))) (refused 2 (n + 1)) ≡ refused number line → ⊥
+    go true true e = let q : ◌≡◌ {A = ℕ} 0 1 = cc in omega arith
+    go true false e = let q : number ≡ 10 = cc in omega arith
+    go false b e = let q : number ≡ 2 = cc in omega arith
+refused_lines rules (part l ls) st n at number line e z =
+    refused_line _ (fault_of rules st (line_of rules l)) (n + 1) number line e (refused_lines rules ls _ _ _ number line) z
+
+pub refused_number : (rules : Rules) (s : List ℕ) (number line : ℕ) → read_with rules s ≡ refused number line → number ≡ 0 → ⊥
+unfolding read_with
+refused_number rules s number line e z = go (ltb most_bytes (length s)) e
+  where
+    go : (b : Bool) → cond b (refused 1 0) (read_lines rules nothing_read 0 0 (split line_feed s)) ≡ refused number line → ⊥
+    go true e = let q : number ≡ 1 = cc in omega arith
+    go false e = refused_lines rules (split line_feed s) nothing_read 0 0 number line e z
 
 -- ---- what an answer tells of what reading comes to
 parted : {a b c d : ℕ} {X : Type 0} → ◌≡◌ {A = ℕ × ℕ} (a, b) (c, d) → (a ≡ c → b ≡ d → X) → X

@@ -5,9 +5,10 @@ use mathlib.Core.List.{List, [], ◌∷◌}
 use Rattle.std.proofs.Common.{Option, Some, None}
 use Prim.Native.Nat.{ℕ, ◌+◌, ◌≤◌, ◌<◌}
 use native.Mathlib.Omega.{arith}
-use borrow.Author.Tests.{eq-eqb, ne_eqb, eqb-true, le-leb, lt-leb, leb-true, leb-false}
-use lib.Dec.{eqb, leb}
+use borrow.Author.Tests.{eq-eqb, ne_eqb, eqb-true, le-leb, lt-leb, leb-true, leb-false, ltb-true, ltb-false}
+use lib.Dec.{eqb, leb, ltb}
 use lib.ListN.{length, get_or, take, drop}
+use lib.Seq.{length-take-le}
 use Rattle.tree.specs.Tree.{Operator as TreeOperator, union, difference, intersection, sign, is_up_to, most_group, is_in}
 use Rattle.text.specs.Decimal.{decimal}
 use Rattle.text.specs.Inner.{most_number, capped, ahead}
@@ -105,10 +106,10 @@ line_fields rules (kind ∷ (b ∷ l)) h e = rw (eq-eqb tab b (sym e)) (go (eqb 
     go false q = refl
 
 -- no kind, or one of more than a letter
-pub line_none : (rules : Rules) (l : List ℕ) → length l ≡ 0 → line_of rules l ≡ None
+pub line_empty : (rules : Rules) (l : List ℕ) → length l ≡ 0 → line_of rules l ≡ None
 unfolding line_of split form_of
-line_none rules [] e = refl
-line_none rules (kind ∷ l) e = absurd (omega arith)
+line_empty rules [] e = refl
+line_empty rules (kind ∷ l) e = absurd (omega arith)
 
 pub line_long : (rules : Rules) (l : List ℕ) → 2 ≤ length l → (get_or l 1 0 ≡ tab → ⊥) → line_of rules l ≡ None
 unfolding line_of split form_of
@@ -120,6 +121,24 @@ line_long rules (kind ∷ (b ∷ l)) h n = rw (ne_eqb tab b (λ e. n (sym e))) (
     go true ps = form_none rules [] (onto b ps) refl
     go false (last p) = refl
     go false (part p ps) = form_none rules (kind ∷ (b ∷ p)) ps refl
+
+-- any line whose kind is not one letter
+letter_none : (f : List ℕ) → (length f ≡ 1 → ⊥) → letter_of f ≡ 0
+letter_none [] h = refl
+letter_none (b ∷ []) h = absurd (h refl)
+letter_none (b ∷ (c ∷ f)) h = refl
+
+pub line_none : (rules : Rules) (l : List ℕ) → ahead tab l ≤ length l → (ahead tab l ≡ 1 → ⊥) → line_of rules l ≡ None
+unfolding line_of form_of
+line_none rules l m h = go (ltb (ahead tab l) (length l)) refl
+  where
+    go : (b : Bool) → ltb (ahead tab l) (length l) ≡ b → form_of rules (split tab l) ≡ None
+    go true q =
+        let k = ltb-true (ahead tab l) (length l) q in
+        rw (split_first tab l k) (form_none rules (take (ahead tab l) l) (split tab (drop (ahead tab l + 1) l)) (letter_none (take (ahead tab l) l) (λ e. h (sym (length-take-le (ahead tab l) l m) ∙ e))))
+    go false q =
+        let e : ahead tab l ≡ length l = omega (arith, ltb-false (ahead tab l) (length l) q) in
+        rw (split_all tab l e, letter_none l (λ z. h (e ∙ z)))
 
 pub fields_one : (rules : Rules) (kind : ℕ) (f : List ℕ) → ahead tab f ≡ length f → form_of rules (part (kind ∷ []) (split tab f)) ≡ one_number rules kind (decimal f)
 unfolding form_of

@@ -155,6 +155,7 @@ fn last_alone(words: usize) -> usize
 }
 
 // One step of a lift, written to `out`, by a table's words; without any by ours.
+#[inline(never)]
 pub fn step(
     list: &[u16],
     node: Node,

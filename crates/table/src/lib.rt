@@ -11,12 +11,12 @@ pub const ROWS: usize = 256;
 // each row would ask again.
 const NO_PLACE: usize = tree::MOST_GROUPS;
 
-// The bit of a row that says whether the group is in; for a group that is not listed, a bit that no row has.
+// The bit of a row that says whether the group is in; for a group that is not listed, or after the eighth, a bit that no row has.
 fn place(groups: &[u16], g: u16) -> u8
     ensures { IsPlace groups.now g result }
 {
-    let place = groups.iter().position(|x| *x == g).unwrap_or(NO_PLACE);
-    place.min(NO_PLACE) as u8
+    let known = &groups[..groups.len().min(NO_PLACE)];
+    known.iter().position(|x| *x == g).unwrap_or(NO_PLACE) as u8
 }
 
 // The places of the tree's leaves, entry by entry: looked up once, before the rows. (An operator's entry has one too, which nothing
@@ -50,6 +50,7 @@ fn operator_at(list: &[u16], i: usize) -> Option<u16>
 // stand in `waiting`, from index 1 on, with their number beside it (no heap). A leaf that is a right operand never waits, so a turn
 // takes one entry or two, and the index is counted by hand: a `for` in which each leaf waits was tried and is slower
 // (docs/DECISIONS.md, Speed).
+#[inline(never)]
 fn eval(list: &[u16], places: &[u8; tree::MOST_NODES], row: usize) -> bool
     requires { Listed list.now × (row < row_count) × ((groups : List ℕ) × ArePlaces list.now groups places.now) }
     ensures { (t : Tree) (groups : List ℕ) → list.now ≡ postfix t → ArePlaces list.now groups places.now

@@ -5,9 +5,7 @@ use Prim.Native.Nat.{ℕ, suc, ◌+◌, ◌≤◌, ◌<◌}
 use native.Mathlib.Omega.{arith}
 use native.Mathlib.Numerals.{add-one}
 use lib.ListN.{length, get_or, set, take, drop, length-append, length-set}
-use lib.Seq.{sets, sets-eq, length-sets, take_all, take_at, take-suc}
-use borrow.Rule.Slice.PartMut.{put_mid}
-use Rattle.std.proofs.lemmas.Slice.{put_mid-paste}
+use lib.Seq.{sets, sets-eq, take_at, take-suc}
 use Rattle.tree.specs.Writing.{over}
 use Rattle.tree.specs.InnerWriting.{Wrote}
 
@@ -44,14 +42,12 @@ take_over xs out n e = take_at xs (drop (length xs) out) n (sym e)
 pub wrote_take : {out out₁ : List ℕ} {n : ℕ} {xs : List ℕ} → Wrote out 0 out₁ n xs → length xs ≤ length out → take n out₁ ≡ xs
 wrote_take {out} {out₁} {n} {xs} w h = rw (wrote_over w h) (take_over xs out n (omega (arith, w.ends)))
 
--- a list that is copied in one go, into a part of the buffer as long as it
-pub wrote_part : {A : Type 0} (out : List A) (at n : ℕ) (xs ys : List A) → at + length xs ≤ length out → n ≡ length xs → ys ≡ xs → Wrote out at (put_mid at n out ys) (at + length xs) xs
-wrote_part out at n xs ys h e f =
-    let list : put_mid at n out ys ≡ sets out at xs =
-    put_mid-paste at n out ys xs n f refl e ∙ rw (e, take_all (length xs) xs (omega arith), sets-eq xs out at h) in
-    record { list = list; ends = refl; same = ap length list ∙ length-sets out at xs }
-
 -- one entry more of a list that is copied
+pub wrote_more : {A : Type 0} {out out₁ : List A} {at next : ℕ} (source : List A) (i : ℕ) (x : A) → i < length source → x ≡ get_or source i x
+    → Wrote out at out₁ next (take i source) → Wrote out at (set out₁ next x) (next + 1) (take (i + 1) source)
+wrote_more {A} source i x h e w =
+    wrote_as (wrote_then w (wrote_one _ _ x)) (ap (λ (y : A). take i source ++ (y ∷ [])) e ∙ sym (ap (λ (k : ℕ). take k source) (add-one i) ∙ take-suc source i x h))
+
 pub wrote_next : {out out₁ : List ℕ} {at next : ℕ} (source : List ℕ) (i : ℕ) → i < length source → Wrote out at out₁ next (take i source)
     → Wrote out at (set out₁ next (get_or source i 0)) (next + 1) (take (i + 1) source)
 wrote_next source i h w =

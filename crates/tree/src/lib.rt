@@ -234,14 +234,14 @@ pub fn above_part(list: &[u16], part: Stretch) -> Option<Above>
 }
 
 // Copies all of `source` into `out` from index `at` on, and returns the index after it.
-#[tactic(auto, using(crate::proofs::WritingLaws::wrote_part))]
 pub fn copy<T: Copy>(source: &[T], out: &mut [T], at: usize) -> usize
     requires { at + length source.now ≤ length out.old }
     ensures { Wrote out.old at out.new result source.now }
 {
-    let end = at + source.len();
-    out[at..end].copy_from_slice(source);
-    end
+    for (i, x) in source.iter().enumerate() {
+        out[at + i] = *x;
+    }
+    at + source.len()
 }
 
 // Writes one value into `out` at index `at`, and returns the index after it.
