@@ -201,6 +201,9 @@ module _ {d : ℕ} {m : Holder} {t : Table} {gs hs out : List ℕ} {at n : ℕ} 
     left_need = omega (arith, left_whole most_b (le_refl most_b), left_room r.form (eqb at i) xs fits_a.nodes most_b, fits_a.ends)
 
     module _ {o₂ : List ℕ} {left : ℕ} (g : Wrote o₁ i o₂ left (left_written r.form (eqb at i) xs)) where
+      pub left_same : length o₂ ≡ length out
+      left_same = g.same ∙ fits_a.same
+
       -- the tree ends there,
       pub built_left : ends_there r.form (eqb at left) ≡ true → Built m t gs hs out at o₂ left
       built_left stops = record {
@@ -258,6 +261,9 @@ module _ {d : ℕ} {m : Holder} {t : Table} {gs hs out : List ℕ} {at n : ℕ} 
 
       -- and the operator written
       module _ {o₆ : List ℕ} {next last : ℕ} (l : last ≡ sign (operator_of (outer r.form))) (v : Wrote o₅ right o₆ next (between at left right last)) where
+        pub all_same : length o₆ ≡ length out
+        all_same = v.same ∙ u.same ∙ fits_b.same ∙ p.before.same ∙ left_same p.begun p.a p.left_done
+
         pub built_all : Built m t gs hs out at o₆ next
         built_all = record {
           wrote = λ h e k.

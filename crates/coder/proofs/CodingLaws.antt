@@ -6,7 +6,7 @@ use mathlib.Core.Option.{some, none}
 use mathlib.Core.List.{List, [], ◌∷◌}
 use Prim.Native.Nat.{ℕ, ◌+◌, ◌-◌, ◌≤◌, ◌<◌}
 use native.Mathlib.Omega.{arith}
-use borrow.Author.Tests.{lt-ltb, le-ltb, ltb-true, ltb-false}
+use borrow.Author.Tests.{le-leb, lt-leb, lt-ltb, le-ltb, ltb-true, ltb-false}
 use lib.Dec.{ltb}
 use lib.ListN.{length}
 use Rattle.common.specs.Answer.{done, refused_with}
@@ -29,6 +29,7 @@ use Rattle.notes.proofs.NoteLaws.{Split, split, left_node, right_node, node_at, 
 use Rattle.coder.specs.InnerNotes.{StepsDown, Writable}
 use Rattle.coder.specs.Coding.{least_buffer, coded_says, EncodesBy, Encodes, run_of}
 use Rattle.coder.specs.declared.Refusal.{Refusal}
+use Rattle.coder.specs.declared.Refusal.TheVariants.{ShortBuffer, NotATree}
 use Rattle.notes.specs.declared.Note.{Note}
 use Rattle.std.proofs.Common.{Result, Ok, Err}
 use Rattle.code.proofs.NeedLaws.{need_most}
@@ -48,6 +49,13 @@ only_done (Ok m) n e = cc
 only_done (Err k) n e = let z : ◌≡◌ {A = ℕ} 0 1 = cc in absurd (omega arith)
 
 module _ {I : Type 0} (least : ℕ) (code_t : Tree → List I) (numbers : List I → List ℕ) where
+  module _ (tree out : List ℕ) where
+    pub too_short : length out < least → EncodesBy least code_t numbers tree out (Err ShortBuffer) out
+    too_short h = let z = lt-ltb (length out) least h in record { says = rw z; written = rw z }
+
+    pub not_a_tree : least ≤ length out → is_some (tree_of tree) ≡ false → EncodesBy least code_t numbers tree out (Err NotATree) out
+    not_a_tree h e = let z = le-ltb (length out) least h in record { says = rw (z, e); written = rw (z, e) }
+
   -- what was written at the root, from index 0 on, are the numbers of the code
   pub all_written : {tree out after : List ℕ} {next count : ℕ} → least ≤ length out → (I : IsTree tree) → count ≡ length (code_t I.tree)
       → length (numbers (code_t I.tree)) ≤ length out → Wrote out 0 after next (numbers (code_t I.tree))
@@ -114,6 +122,34 @@ descent_few {l} {p} {e} {b} D =
 not_cond : (f : Bool) (n : ℕ) → cond (not f) 0 n ≡ cond f n 0
 not_cond true n = refl
 not_cond false n = refl
+
+-- what `step_down` computes from the notes, by which child comes first
+module _ (n : List Note) (e p : ℕ) where
+  module _ (h : (note_at n (e - 1)).need ≤ (note_at n (middle n e - 1)).need) where
+    pub stepped_left_first : p < middle n e → StepsDown n e p (middle n e - 1) 0
+    stepped_left_first lt =
+        let f = le-leb (note_at n (e - 1)).need (note_at n (middle n e - 1)).need h in
+        let g = lt-ltb p (middle n e) lt in
+        record { child = rw g; passed = rw (g, f) }
+
+    pub stepped_right_second : middle n e ≤ p → StepsDown n e p (e - 1) (middle n e - (note_at n (middle n e - 1)).start)
+    stepped_right_second le =
+        let f = le-leb (note_at n (e - 1)).need (note_at n (middle n e - 1)).need h in
+        let g = le-ltb p (middle n e) le in
+        record { child = rw g; passed = rw (g, f) }
+
+  module _ (h : (note_at n (middle n e - 1)).need < (note_at n (e - 1)).need) where
+    pub stepped_left_second : p < middle n e → StepsDown n e p (middle n e - 1) (e - middle n e)
+    stepped_left_second lt =
+        let f = lt-leb (note_at n (e - 1)).need (note_at n (middle n e - 1)).need h in
+        let g = lt-ltb p (middle n e) lt in
+        record { child = rw g; passed = rw (g, f) }
+
+    pub stepped_right_first : middle n e ≤ p → StepsDown n e p (e - 1) 0
+    stepped_right_first le =
+        let f = lt-leb (note_at n (e - 1)).need (note_at n (middle n e - 1)).need h in
+        let g = le-ltb p (middle n e) le in
+        record { child = rw g; passed = rw (g, f) }
 
 module _ {l : List ℕ} {n : List Note} {p e b next more : ℕ} (N : Noted l n) (lt : p < e) where
   -- the two steps down from the node with the children x and y

@@ -5,7 +5,7 @@ use mathlib.Core.Bool.{Bool, true, false, cond}
 use mathlib.Core.List.{List, [], ◌∷◌, ◌++◌}
 use mathlib.Core.Option.{Option, none}
 use Prim.Native.Nat.{ℕ, zero, suc, ◌+◌, ◌-◌, ◌*◌, ◌/◌, ◌%◌, ◌^◌, ◌<◌, ◌≤◌}
-use native.Mathlib.Nat.{mul-suc, mul_comm, mul-le-mul_left, mul-le-mul_right, one-mul, mod-add-div, div-lt_iff_lt-mul, two-pow-succ, pow-succ', zero-add}
+use native.Mathlib.Nat.{mul-suc, mul_comm, mul-le-mul_left, mul-le-mul_right, one-mul, mod-lt, mod-add-div, div-lt_iff_lt-mul, two-pow-succ, pow-succ', zero-add}
 use native.Mathlib.Omega.{arith}
 use lib.Pow.{pow-add, pow_mono, pow_pos}
 use lib.Dec.{ltb}
@@ -33,6 +33,19 @@ use Rattle.columns.specs.declared.Choice.TheVariants.{Constant, Columns}
 -- ---- rows of a column
 pub row_column : (w n i : ℕ) → 0 < w → i < w * n → i / w < n
 row_column w n i pos h = (div-lt_iff_lt-mul {k = w} {x = i} {y = n} pos).1 (rw (mul_comm n w) h)
+
+column_end : (w n i total : ℕ) → 0 < w → total ≡ w * n → i < total → i - i % w + w ≤ total
+column_end w n i total pos e h =
+    let k = row_column w n i pos (omega arith) in
+    let l = mul-le-mul_left w k in
+    omega (arith, mod-add-div i w, mul-suc w (i / w))
+
+pub agrees_inside : (w total low high start i : ℕ) → Scanned w total low high start → i < total
+    → (0 < w) × (i < row_count) × (i - i % w + low < row_count) × (i - i % w + high < row_count) × (start + i % w < row_count)
+agrees_inside w total low high start i s h =
+    let e = column_end w s.whole.0 i total s.positive s.whole.1 h in
+    let m = mod-lt i s.positive in
+    (s.positive, omega (arith, s.most), omega (arith, s.low_below, s.most), omega (arith, s.high_below, s.most), omega (arith, s.inside, s.most))
 
 -- a row's own column
 pub scanned_at : (w total i low high : ℕ) → Scanned w total 0 0 0 → i < total → low < w → high < w → Scanned w total low high (i - i % w)
@@ -62,7 +75,11 @@ module _ (Ta : ℕ → Bool) (w total i : ℕ) (e : i ≡ failing Ta w total 0 0
   unfolding choice
   choice_false c h b q = rw (← e, lt-ltb i total h, b) q
 
--- ---- the rows from, from + step, .. of a table: not more of them than rows
+-- ---- the rows from, from + step, .. of a table
+pub step_below : (w n i : ℕ) → i < n → w * i + w ≤ w * n
+step_below w n i h = omega (arith, mul-le-mul_left w h, mul-suc w i)
+
+-- not more of them than rows
 pub steps_most : (w n : ℕ) → 1 ≤ w → n ≤ w * n
 steps_most w n h = omega (arith, mul-le-mul_right n h, one-mul n)
 
@@ -213,6 +230,9 @@ module _ (T : ℕ → Bool) {ms us : List ℕ} {w columns room p start : ℕ} (z
       -- the rows k are those over the others and the holder, and gs these variables
       module _ {k : Table} (g : k ≡ exact_table (λ i. T (cond (ltb i columns) (w * i) (w * (i - columns) + p))) (2 * columns))
           {gs : List ℕ} (v : gs ≡ us ++ (0 ∷ [])) where
+        pub held_count : 2 * columns ≡ 2 ^ length gs
+        held_count = double s ∙ ap (λ (x : ℕ). 2 ^ x) (sym (ap length v ∙ one_more))
+
         pub held_ready : Ready Held k gs
         held_ready = rw (held_table_lem T s p g, v) q.table
 

@@ -1,23 +1,53 @@
 -- Laws for the code: the pairs of rows stay inside the table, one turn of the scans, and arrays that are filled row by row.
-use mathlib.Core.Path.{◌≡◌, refl, sym, ap, ◌∙◌}
+use mathlib.Core.Path.{◌≡◌, refl, sym, ap, ap₂, ◌∙◌}
 use mathlib.Core.Bool.{Bool, true, false, not, ◌&&◌}
 use mathlib.Core.List.{List}
-use Prim.Native.Nat.{ℕ, ◌+◌, ◌-◌, ◌%◌, ◌<◌, ◌≤◌}
-use native.Mathlib.Nat.{mod-add-mod, zero-mod}
+use Prim.Native.Nat.{ℕ, ◌+◌, ◌-◌, ◌*◌, ◌/◌, ◌%◌, ◌^◌, ◌<◌, ◌≤◌}
+use native.Mathlib.Nat.{mul-suc, mul_comm, mul-le-mul_left, mod-lt, mod-le, mod_self, mod-eq_of_lt, mod-add-mod, mod-add-div, zero-mod, div-lt_iff_lt-mul, two-pow-succ}
 use native.Mathlib.Omega.{arith}
+use native.Mathlib.Numerals.{add-one}
+use lib.Pow.{pow_mono}
 use lib.ListN.{length, get_or, take, set, length-set}
 use lib.Seq.{get_or-set_same, get_or-set_other, get_or-take, length-take-le, ext_get_or}
 use borrow.Author.Count.{below_more}
-use Rattle.table.specs.InnerTable.{tabulate}
+use Rattle.tree.specs.Tree.{most_groups}
+use Rattle.table.specs.InnerTable.{row_count, tabulate}
 use Rattle.table.proofs.TableLaws.{length_tabulate, tabulate_at}
 use Rattle.forms.specs.InnerForms.{free, first_row, second_row}
-use Rattle.free_tables.specs.InnerTables.{Table, row_at, at_pair, may_use_all, usable}
+use Rattle.free_tables.specs.InnerTables.{Table, row_at, half, at_pair, may_use_all, usable, Splits}
 use Rattle.forms.specs.declared.Row.{Row}
 use Rattle.forms.specs.declared.Form.{Form}
 
+-- ---- powers
+pub power_turn : (s i : ℕ) → s ≡ 2 ^ i → s + s ≡ 2 ^ (i + 1)
+power_turn s i e = ap₂ ◌+◌ e e ∙ sym (ap (λ (k : ℕ). 2 ^ k) (add-one i) ∙ two-pow-succ i)
+
+pub power_small : (s i k : ℕ) → s ≡ 2 ^ i → i ≤ k → k ≤ most_groups → s ≤ row_count
+power_small s i k e h l = let a : i ≤ most_groups = omega arith in let z : 2 ^ i ≤ 2 ^ most_groups = pow_mono a in omega arith
+
 -- ---- the place of a row, from 0 up to the step
+pub place_end : (k step : ℕ) → k + 1 ≡ step → 0 ≡ (k + 1) % step
+place_end k step e = sym (ap (λ (s : ℕ). (k + 1) % s) (sym e) ∙ mod_self (k + 1))
+
+pub place_on : (k step : ℕ) → k < step → (k + 1 ≡ step → ⊥) → k + 1 ≡ (k + 1) % step
+place_on k step h n = sym (mod-eq_of_lt {n = k + 1} {m = step} (omega arith))
+
 pub place_turn : (r k j step : ℕ) → k ≡ r % step → j ≡ (k + 1) % step → j ≡ (r + 1) % step
 place_turn r k j step e q = q ∙ ap (λ (x : ℕ). (x + 1) % step) e ∙ mod-add-mod r step 1
+
+module _ {t : Table} {step : ℕ} (s : Splits t step) (r k : ℕ) (e : k ≡ r % step) where
+  pub place_below : k < step
+  place_below = omega (arith, mod-lt r s.positive)
+
+  pub place_row : k ≤ r
+  place_row = omega (arith, mod-le r step)
+
+  pub pair_inside : r < half t → r + (r - k) + step < length t
+  pair_inside h =
+      let b : r < step * s.blocks = omega (arith, s.count) in
+      let q : r / step < s.blocks = (div-lt_iff_lt-mul {k = step} {x = r} {y = s.blocks} s.positive).1 (rw (mul_comm s.blocks step) b) in
+      let l = mul-le-mul_left step q in
+      omega (arith, s.count, mod-add-div r step, mul-suc step (r / step), mod-lt r s.positive)
 
 -- a rule at the rows that are read
 pub pair_rule : {A : Type 0} (f : Row → Row → A) (t : Table) (step r k : ℕ) → k ≡ r % step → f (row_at t (r + (r - k))) (row_at t (r + (r - k) + step)) ≡ at_pair f t step r

@@ -58,6 +58,11 @@ as_given Mixed t marks k e = absurd (none-some k e)
 as_given (All j) t marks k e = refl
 as_given (Held j) t marks k e = refl
 
+pub returned_as : {marks out out' : List ℕ} {r : Gathering} (t : Tree) (s : Status) → status (is_in marks) 0 t ≡ s → Returned marks (gathered_as s t marks) out out' r
+    → Returned marks (gathered_by t marks) out out' r
+unfolding gathered_by
+returned_as {marks} {out} {out'} {r} t s e R = subst (λ (x : Status). Returned marks (gathered_as x t marks) out out' r) (sym e) R
+
 pub returned_rearranged : {marks out out' : List ℕ} {r : Gathering} (t : Tree) → holder (status (is_in marks) 0 t) ≡ None → Returned marks (rearranged t marks) out out' r
     → Returned marks (gathered_by t marks) out out' r
 unfolding gathered_by

@@ -14,6 +14,7 @@ use Rattle.common.specs.Exactly.{Exactly}
 use Rattle.tree.specs.Tree.{Operator, Tree, leaf, node, postfix, size, Over, is_in}
 use Rattle.tree.specs.Context.{left, right, Frame, frame, plug, before, OverAbove}
 use Rattle.tree.specs.InnerPass.{fold}
+use Rattle.tree.specs.Parse.{tree_of, is_some as has_tree}
 use Rattle.tree.proofs.TreeLaws.{postfix_length, size_positive}
 use Rattle.tree.proofs.ParseLaws.{IsTree}
 use Rattle.gather.specs.Gathering.{Gathered}
@@ -133,3 +134,7 @@ says_gathered {list} {marks} T o e = record { only = λ q. only o e q; always = 
         let k : some G.tree ≡ some T.tree = sym G.is ∙ T.is in
         let u : G.tree ≡ T.tree = cc in
         ap (λ (r : Option ℕ). is_some r) (e ∙ ap (λ (t : Tree). holder (status (is_in marks) 0 t)) (sym u) ∙ gathered_status G.gathered)
+
+-- a list that is no tree is none
+pub says_none : {list marks : List ℕ} → has_tree (tree_of list) ≡ false → Exactly (false ≡ true) (GatheredList list marks)
+says_none e = record { only = λ q. absurd (false≢true q); always = λ G. sym e ∙ ap has_tree G.is }

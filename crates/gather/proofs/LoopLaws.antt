@@ -30,6 +30,12 @@ module _ (gs marks : List ℕ) (i : ℕ) where
   rest : take (length marks - (i + 1)) (drop (i + 1) marks) ≡ drop (i + 1) marks
   rest = take_all (length marks - (i + 1)) (drop (i + 1) marks) (omega (arith, length-drop (i + 1) marks))
 
+  pub bad_stop : (twice known : Bool) → i < length marks → twice ≡ is_in (take (length marks - (i + 1)) (drop (i + 1) marks)) (get_or marks i 0) → known ≡ is_in gs (get_or marks i 0)
+      → (twice || not known) ≡ true → bad_mark gs (drop i marks) ≡ true
+  bad_stop twice known h e f q =
+      let z : (is_in (drop (i + 1) marks) (get_or marks i 0) || not (is_in gs (get_or marks i 0))) ≡ true = rw (e, f, rest) at q in
+      bad_turn h ∙ ap (λ (b : Bool). b || bad_mark gs (drop (i + 1) marks)) z
+
   pub bad_twice : i < length marks → true ≡ is_in (take (length marks - (i + 1)) (drop (i + 1) marks)) (get_or marks i 0) → bad_mark gs (drop i marks) ≡ true
   bad_twice h e = bad_turn h ∙ rw (← rest, ← e)
 

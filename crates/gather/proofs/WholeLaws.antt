@@ -12,6 +12,7 @@ use borrow.Author.Tests.{lt-ltb, ltb-false, eqb-true, eqb-false, not-false}
 use lib.ListN.{length, get_or, take, drop, length-append, length-drop, take-append-drop}
 use lib.Seq.{take_all, take_at, drop_at, length-take-le}
 use Rattle.std.specs.Prelude.{◌≢◌, Some, None, Ok, Err}
+use Rattle.std.proofs.lemmas.Option.{none-some}
 use Rattle.tree.specs.Tree.{Tree, sign, union, plus, minus, is_group, postfix, size, most_nodes, Over, leaves, is_in, collect, groups, most_groups}
 use Rattle.tree.specs.InnerGroups.{Distinct, leaves_in}
 use Rattle.tree.specs.Parse.{tree_of}
@@ -38,6 +39,7 @@ use Rattle.gather.specs.Inner.{tree_list, MarkedParts, Ordered}
 use Rattle.gather.specs.Answer.{Gathering, bad_mark, groups_fault, tree_fault, gather_fault, GatheredTo, GathersTree}
 use Rattle.gather.specs.InnerGathered.{tree_by, rearranged, gathered_by, Returned}
 use Rattle.holding.specs.declared.Status.{Status}
+use Rattle.holding.specs.declared.Status.TheVariants.{Free, Mixed}
 use Rattle.gather.specs.declared.Refusal.TheVariants.{CannotBeGathered}
 use Rattle.gather.proofs.GatheringLaws.{fillings_cannot}
 use Rattle.gather.proofs.ChoosingLaws.{ColumnTables, Result, Verdict, verdict, both_false}
@@ -429,3 +431,10 @@ pub copied_returned : {list marks out out' : List ℕ} {n k : ℕ} (t : Tree) �
     → Returned marks (gathered_by t marks) out out' (Ok (record { nodes = n; holder = k }))
 unfolding copied
 copied_returned t q s w e = returned_given t _ e (returned_tree (copied t q s w e) refl)
+
+-- ---- statuses that name no holder
+pub not_free : (k : ℕ) → Names Free k → ⊥
+not_free k e = none-some k e
+
+pub not_mixed : (k : ℕ) → Names Mixed k → ⊥
+not_mixed k e = none-some k e

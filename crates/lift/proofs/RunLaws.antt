@@ -39,13 +39,13 @@ module _ (m : MoveTable) (a : Tree) (c : List Frame) (k looks : ℕ) (h : k ≡ 
       let s : steps m (suc (k - 1)) a c looks ≡ goes_on (step m c) a rest = unfold steps in refl in
       ap (λ (j : ℕ). steps m j a c looks) e ∙ s ∙ ap (λ (o : Outcome). goes_on o a rest) q
 
-  stops : (out : List ℕ) → step m c ≡ stuck → Lifts (steps m k a c looks) out (Err NoStep) out
+  pub stops : (out : List ℕ) → step m c ≡ stuck → Lifts (steps m k a c looks) out (Err NoStep) out
   stops out q = says_as (one q) refl refl
 
-  is_blocked : (out : List ℕ) → step m c ≡ blocked → Lifts (steps m k a c looks) out (Err ThroughIntersection) out
+  pub is_blocked : (out : List ℕ) → step m c ≡ blocked → Lifts (steps m k a c looks) out (Err ThroughIntersection) out
   is_blocked out q = says_as (one q) refl refl
 
-  grows_too_long : (out : List ℕ) → StepTooLong m a c → Lifts (steps m k a c looks) out (Err TooLong) out
+  pub grows_too_long : (out : List ℕ) → StepTooLong m a c → Lifts (steps m k a c looks) out (Err TooLong) out
   grows_too_long out L = says_as (one L.moves ∙ ap (λ (b : Bool). cond b (refused 16) (rest L.e)) (lt-ltb most_nodes (size (plug a L.e)) L.long)) refl refl
 
   -- a step's refusal is the lift's

@@ -2,6 +2,7 @@
 use Rattle.std.proofs.Common.{Some}
 use mathlib.Core.Path.{◌≡◌, refl, sym, ap, ◌∙◌}
 use mathlib.Core.List.{List, [], ◌∷◌, ◌++◌}
+use mathlib.Core.Logic.{◌⊎◌, inl, inr}
 use Prim.Native.Nat.{ℕ, suc, ◌+◌, ◌-◌, ◌*◌, ◌≤◌, ◌<◌}
 use native.Mathlib.Omega.{arith}
 use lib.ListN.{length, take}
@@ -112,3 +113,11 @@ module _ {m : MoveTable} {sheet : List ℕ} {t : Tree} {ls : List LiftLine} {cou
             most = omega (arith, R.most);
           }
       go (l ∷ more) q = absurd (omega (arith, R.asked.counted, ap (length {A = LiftLine}) q))
+
+-- 2 is none of 0, 1, 3, 4 and 5
+pub not_two : {X : Type 0} → (◌≡◌ {A = ℕ} 2 0) ⊎ ((◌≡◌ {A = ℕ} 2 1) ⊎ ((◌≡◌ {A = ℕ} 2 3) ⊎ ((◌≡◌ {A = ℕ} 2 4) ⊎ (◌≡◌ {A = ℕ} 2 5)))) → X
+not_two (inl e) = absurd (omega arith)
+not_two (inr (inl e)) = absurd (omega arith)
+not_two (inr (inr (inl e))) = absurd (omega arith)
+not_two (inr (inr (inr (inl e)))) = absurd (omega arith)
+not_two (inr (inr (inr (inr e)))) = absurd (omega arith)

@@ -141,6 +141,10 @@ module _ (groups list : List ℕ) (i : ℕ) where
   unfolding foreign_entry
   foreign_here h l e = rw (here list i h, lt-ltb (get_or list i 0) (sign union) l, e)
 
+  pub foreign_on : i < length list → (ltb (get_or list i 0) (sign union) && not (is_in groups (get_or list i 0))) ≡ false → foreign_entry groups i (drop i list) ≡ foreign_entry groups (i + 1) (drop (i + 1) list)
+  unfolding foreign_entry
+  foreign_on h e = rw (here list i h, e)
+
   pub foreign_known : i < length list → is_in groups (get_or list i 0) ≡ true → foreign_entry groups i (drop i list) ≡ foreign_entry groups (i + 1) (drop (i + 1) list)
   unfolding foreign_entry
   foreign_known h e = rw (here list i h, e, and-false (ltb (get_or list i 0) (sign union)))

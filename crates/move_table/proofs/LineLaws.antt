@@ -3,10 +3,11 @@ use mathlib.Core.Path.{◌≡◌, refl, sym, ap, ap₂, ◌∙◌}
 use mathlib.Core.Bool.{Bool, true, false, cond, ◌&&◌, ◌||◌, false≢true}
 use mathlib.Core.List.{List, [], ◌∷◌, ◌++◌, append-nil}
 use Prim.Native.Nat.{ℕ, zero, suc, ◌+◌, ◌-◌, ◌/◌, ◌%◌, ◌≤◌, ◌<◌}
+use native.Mathlib.Nat.{lt_of_lt_of_le}
 use native.Mathlib.Omega.{arith}
 use native.Mathlib.Numerals.{add-one}
 use borrow.Author.Tests.{eqb-true, eq-eqb, leb-true, le-leb}
-use lib.Dec.{T, eqb, leb, eqb→eq}
+use lib.Dec.{T, eqb, leb, leb→le, eqb→eq}
 use Rattle.std.proofs.lemmas.Bool.Decides.{nat_tests}
 use lib.Pointwise.{pointwise}
 use lib.ListN.{length-drop, length, get_or, take, drop, length-append}
@@ -43,6 +44,16 @@ allowed_either false g r e = refl
 pub allowed_last : (b : Bool) → allowed (cond b (operator minus) neither) ≡ b
 allowed_last true = refl
 allowed_last false = refl
+
+pub signs_here : (bytes : List ℕ) (i : ℕ) → i < length bytes → allowed (sign_of (get_or bytes i 0)) ≡ true → length (signs_in (drop i bytes)) ≡ length (signs_in (drop (i + 1) bytes)) + 1
+signs_here bytes i h e = rw (here bytes i h) (unfold signs_in in rw e (sym (add-one (length (signs_in (drop (i + 1) bytes))))))
+
+pub signs_end : (bytes : List ℕ) (i : ℕ) → i < length bytes → allowed (sign_of (get_or bytes i 0)) ≡ false → length (signs_in (drop i bytes)) ≡ 0
+signs_end bytes i h e = rw (here bytes i h) (unfold signs_in in rw e)
+
+pub signs_none : length (signs_in []) ≡ 0
+unfolding signs_in
+signs_none = refl
 
 signs_prefix : (bytes : List ℕ) → prefix_len (λ b. allowed (sign_of b)) bytes ≡ length (signs_in bytes)
 unfolding signs_in
@@ -129,6 +140,10 @@ pub place_of : (x : State) (i : Input) → place_at (place_number x i) ≡ recor
 unfolding place_at
 place_of = same_entry (λ x i. place_at (place_number x i)) (λ x i. record { state = x; input = i }) refl
 
+-- a number below as many as there are, or fewer
+pub within : {n m : ℕ} → n < m → T (leb m 36) → n < 36
+within {n} {m} h t = lt_of_lt_of_le h (leb→le m 36 t)
+
 pub place_below : (x : State) (i : Input) → place_number x i < 36
 place_below x i = let s = state_range x in let n = input_range i in omega arith
 
@@ -188,14 +203,34 @@ starts_pointwise [] bytes = refl
 starts_pointwise (x ∷ xs) [] = refl
 starts_pointwise (x ∷ xs) (b ∷ bytes) = ap₂ ◌&&◌ (eqb_other x b) (starts_pointwise xs bytes)
 
-starts_one : (x : ℕ) (bytes : List ℕ) (at : ℕ) → at < length bytes → eqb (get_or bytes at 0) x ≡ starts_with (x ∷ []) (drop at bytes)
+pub starts_four : (x y z t : ℕ) (bytes : List ℕ) → 4 ≤ length bytes
+    → (eqb (get_or bytes 0 0) x && (eqb (get_or bytes 1 0) y && (eqb (get_or bytes 2 0) z && eqb (get_or bytes 3 0) t))) ≡ starts_with (x ∷ y ∷ z ∷ t ∷ []) bytes
+unfolding starts_with
+starts_four x y z t [] h = absurd (omega arith)
+starts_four x y z t (a ∷ []) h = absurd (omega arith)
+starts_four x y z t (a ∷ b ∷ []) h = absurd (omega arith)
+starts_four x y z t (a ∷ b ∷ c ∷ []) h = absurd (omega arith)
+starts_four x y z t (a ∷ b ∷ c ∷ d ∷ bytes) h = ap (λ (u : Bool). eqb a x && (eqb b y && (eqb c z && u))) (sym (and_true (eqb d t)))
+  where
+    and_true : (u : Bool) → (u && true) ≡ u
+    and_true true = refl
+    and_true false = refl
+
+pub starts_short : (x y z t : ℕ) (bytes : List ℕ) → length bytes < 4 → false ≡ starts_with (x ∷ y ∷ z ∷ t ∷ []) bytes
+starts_short x y z t bytes h = go (starts_with (x ∷ y ∷ z ∷ t ∷ []) bytes) refl
+  where
+    go : (u : Bool) → starts_with (x ∷ y ∷ z ∷ t ∷ []) bytes ≡ u → false ≡ u
+    go true e = absurd (let k = ap length (starts_front (x ∷ y ∷ z ∷ t ∷ []) bytes e) in omega arith)
+    go false e = refl
+
+pub starts_one : (x : ℕ) (bytes : List ℕ) (at : ℕ) → at < length bytes → eqb (get_or bytes at 0) x ≡ starts_with (x ∷ []) (drop at bytes)
 starts_one x bytes at h = rw (here bytes at h) (unfold starts_with in go (eqb (get_or bytes at 0) x))
   where
     go : (u : Bool) → u ≡ (u && true)
     go true = refl
     go false = refl
 
-starts_none : (x : ℕ) (bytes : List ℕ) → length bytes ≡ 0 → false ≡ starts_with (x ∷ []) bytes
+pub starts_none : (x : ℕ) (bytes : List ℕ) → length bytes ≡ 0 → false ≡ starts_with (x ∷ []) bytes
 unfolding starts_with
 starts_none x [] h = refl
 starts_none x (b ∷ bytes) h = absurd (omega arith)
@@ -283,6 +318,17 @@ module _ (at : Place) {w : List ℕ} (W : IsWord w) (rest : List ℕ) where
 pub front_room : (at : Place) (bytes : List ℕ) → starts_with (front at) bytes ≡ true → 4 ≤ length bytes
 front_room at bytes e = let k = ap length (starts_front (front at) bytes e) in omega arith
 
+pub line_tested : (at : Place) (bytes : List ℕ) (n : ℕ) (ends b : Bool) → n ≡ length (word_in bytes) → starts_with (front at) bytes ≡ true
+    → ends ≡ starts_with (line_feed ∷ []) (drop (front_bytes + n) bytes) → (is_up_to most_signs n && ends) ≡ b → cond b (Some n) None ≡ line_signs at bytes
+line_tested at bytes n ends b e f g h =
+    let m : begins at bytes ≡ b =
+    ap₂ ◌&&◌ f (ap₂ (λ (k : ℕ) (x : Bool). is_up_to most_signs k && x) (sym e) (ap (λ (k : ℕ). starts_with (line_feed ∷ []) (drop (front_bytes + k) bytes)) (sym e) ∙ sym g)) ∙ h in
+    ap₂ (λ (x : Bool) (k : ℕ). cond x (Some k) None) (sym m) e
+
+pub line_refused : (at : Place) (bytes : List ℕ) → starts_with (front at) bytes ≡ false → None ≡ line_signs at bytes
+line_refused at bytes f =
+    ap (λ (x : Bool). cond (x && (is_up_to most_signs (length (word_in bytes)) && starts_with (line_feed ∷ []) (drop (front_bytes + length (word_in bytes)) bytes))) (Some (length (word_in bytes))) None) (sym f)
+
 -- what a count of signs says
 pub record Counted (at : Place) (bytes : List ℕ) (n : ℕ) : Type 0 where
   pub is_line : begins at bytes ≡ true
@@ -311,6 +357,9 @@ not_counted at bytes e = go (begins at bytes) refl e
     go false f e = f
     go true f e = absurd (none-some _ (sym e))
 
--- as the code takes a word
+-- as the code takes a word, and that it is not too long
 pub word_part : (at n : ℕ) (bytes : List ℕ) → take (front_bytes + n - front_bytes) (drop front_bytes (take (length bytes - at) (drop at bytes))) ≡ take n (drop front_bytes (drop at bytes))
 word_part at n bytes = ap₂ (λ (k : ℕ) (l : List ℕ). take k (drop front_bytes l)) (let z : front_bytes + n - front_bytes ≡ n = omega arith in z) (rest_all at bytes)
+
+pub word_few : (at : Place) (bytes : List ℕ) (n : ℕ) → Counted at bytes n → length (take n (drop front_bytes bytes)) ≤ most_signs
+word_few at bytes n line = rw line.its_word (omega (arith, line.counted, line.few))

@@ -3,11 +3,11 @@ use mathlib.Core.Path.{◌≡◌, refl, sym, ap, ap₂, ◌∙◌}
 use mathlib.Core.Bool.{Bool, true, false, cond, ◌&&◌}
 use mathlib.Core.Option.{Option, some, none}
 use mathlib.Core.List.{List, [], ◌∷◌}
-use Prim.Native.Nat.{ℕ, ◌+◌, ◌-◌, ◌*◌, ◌<◌}
+use Prim.Native.Nat.{ℕ, ◌+◌, ◌-◌, ◌*◌, ◌≤◌, ◌<◌}
 use native.Mathlib.Omega.{arith}
 use borrow.Author.Tests.{eq-eqb, ne_eqb}
 use lib.Dec.{eqb}
-use lib.ListN.{length, get_or, take, drop}
+use lib.ListN.{length, get_or, take, drop, drop_of_length-le}
 use lib.Seq.{drop-drop}
 use Rattle.std.proofs.Common.{◌≢◌}
 use Rattle.std.specs.Bool.{MatchBool}
@@ -26,6 +26,15 @@ use Rattle.move_table.specs.InnerLoading.{place_at, is_table}
 use Rattle.move_table.proofs.LineLaws.{remaining, remaining_more, remaining_none}
 
 -- ---- nothing but zeros
+pub zero_here : (bytes : List ℕ) (i : ℕ) → i < length bytes → get_or bytes i 0 ≡ 0 → all_zero (drop i bytes) ≡ all_zero (drop (i + 1) bytes)
+zero_here bytes i h e = rw (here bytes i h) (unfold all_zero in rw (eq-eqb (get_or bytes i 0) 0 e))
+
+pub zero_end : (bytes : List ℕ) (i : ℕ) → i < length bytes → (get_or bytes i 0 ≡ 0 → ⊥) → all_zero (drop i bytes) ≡ false
+zero_end bytes i h n = rw (here bytes i h) (unfold all_zero in rw (ne_eqb (get_or bytes i 0) 0 n))
+
+pub zero_none : (bytes : List ℕ) (i : ℕ) → length bytes ≤ i → all_zero (drop i bytes) ≡ true
+zero_none bytes i h = rw (drop_of_length-le bytes h) (unfold all_zero in refl)
+
 zeros_all : (bytes : List ℕ) → list_all (λ b. eqb b 0) bytes ≡ all_zero bytes
 unfolding all_zero
 zeros_all [] = refl
@@ -60,21 +69,25 @@ pub table_from_first : (signs ns : List ℕ) → is_table (entries_of places sig
 unfolding table_from remaining
 table_from_first signs ns = refl
 
-table_from_more : (place : ℕ) (signs ns : List ℕ) → place < 36 → length ns ≡ 36
+pub table_from_more : (place : ℕ) (signs ns : List ℕ) → place < 36 → place < length ns
     → table_from place signs ns ≡ (is_formula (entry_of_row (place_at place) (take most_signs (drop (most_signs * place) signs)) (get_or ns place 0)) && table_from (place + 1) signs ns)
 unfolding table_from entries_of
 table_from_more place signs ns h k =
-    ap₂ (λ (l : List Place) (m : List ℕ). is_table (entries_of l (drop (most_signs * place) signs) m)) (remaining_more place h) (here ns place (omega arith))
+    ap₂ (λ (l : List Place) (m : List ℕ). is_table (entries_of l (drop (most_signs * place) signs) m)) (remaining_more place h) (here ns place k)
     ∙ is_table_before (entry_of_row (place_at place) (take most_signs (drop (most_signs * place) signs)) (get_or ns place 0)) (entries_of (remaining (place + 1)) (drop most_signs (drop (most_signs * place) signs)) (drop (place + 1) ns))
     ∙ ap (λ (l : List ℕ). is_formula (entry_of_row (place_at place) (take most_signs (drop (most_signs * place) signs)) (get_or ns place 0)) && is_table (entries_of (remaining (place + 1)) l (drop (place + 1) ns)))
     (drop-drop most_signs (most_signs * place) signs ∙ ap (λ (n : ℕ). drop n signs) (let z : most_signs * place + most_signs ≡ most_signs * (place + 1) = omega arith in z))
+
+-- as the code takes a row
+pub row_part : (place : ℕ) (signs : List ℕ) → take (most_signs * place + most_signs - most_signs * place) (drop (most_signs * place) signs) ≡ take most_signs (drop (most_signs * place) signs)
+row_part place signs = ap (λ (n : ℕ). take n (drop (most_signs * place) signs)) (let z : most_signs * place + most_signs - most_signs * place ≡ most_signs = omega arith in z)
 
 -- by the code's test of a row
 pub table_row : (place : ℕ) (signs ns : List ℕ) → place < 36 → length ns ≡ 36 → (n : ℕ) → n ≡ get_or ns place 0 → (r : Bool)
     → r ≡ is_formula (entry_of_row (place_at place) (take (most_signs * place + most_signs - most_signs * place) (drop (most_signs * place) signs)) n)
     → (b : Bool) → r ≡ b → table_from place signs ns ≡ (b && table_from (place + 1) signs ns)
 table_row place signs ns h k n f r told b e =
-    table_from_more place signs ns h k
+    table_from_more place signs ns h (omega arith)
     ∙ ap (λ (x : Bool). x && table_from (place + 1) signs ns)
     (ap₂ (λ (i n : ℕ). is_formula (entry_of_row (place_at place) (take i (drop (most_signs * place) signs)) n)) (let z : most_signs ≡ most_signs * place + most_signs - most_signs * place = omega arith in z) (sym f)
     ∙ sym told ∙ e)

@@ -3,7 +3,7 @@ use mathlib.Core.Path.{◌≡◌, refl, sym, ap, ◌∙◌}
 use mathlib.Core.Bool.{cond}
 use mathlib.Core.Option.{some}
 use mathlib.Core.List.{List, [], ◌∷◌, ◌++◌, map}
-use Prim.Native.Nat.{ℕ, ◌≤◌}
+use Prim.Native.Nat.{ℕ, ◌%◌, ◌≤◌}
 use native.Mathlib.Omega.{arith}
 use lib.ListN.{length, get_or, length-append}
 use Rattle.tree.specs.Tree.{Operator, operator_of}
@@ -11,13 +11,13 @@ use Rattle.tree.specs.Context.{Side}
 use Rattle.std.specs.Prelude.{Option as Maybe, Some, None}
 use Rattle.tree.specs.InnerPart.{kind_of}
 use Rattle.tree.specs.declared.Operand.{Operand}
-use Rattle.moves.specs.Moves.{State, basic, state_with, Input, input_a, input_b, input_c, input_d, Move, replace_t, replace_t_with_d, ours}
+use Rattle.moves.specs.Moves.{State, basic, state_with, Input, input_a, input_b, input_c, input_d, Move, replace_t, replace_t_with_d, ours, input_number}
 use Rattle.moves.specs.NextState.{Kind, kind, kind_of_input, state_below, kinds_above, left_above, state_after, next_state}
 use Rattle.moves.specs.InnerEntries.{number_of, input_operand, only_t, LeavesTwo, entry_of}
 use Rattle.words.specs.InnerAbove.{kinds, AboveIs}
 use Rattle.words.specs.declared.AboveA.{AboveA}
 use Rattle.words.proofs.FormulaLaws.{map_above}
-use Rattle.moves.proofs.TableLaws.{same_entry}
+use Rattle.moves.proofs.TableLaws.{same_entry, input_round}
 
 -- "It is to be proved that in all 36 cases this is Table 10's": both tables, computed
 pub table_10 : (x : State) (i : Input) → state_after (ours x) (some i) ≡ some (next_state x i)
@@ -62,3 +62,7 @@ next_is {w} {found} {v} {i} is L second r f g =
     let scan = is.is p L.its_word.blanks L.names_once L.its_word.is in
     next_by found.own second r f v i L.two (scan.0 ∙ ap (λ (ks : List (Maybe Operand)). get_or ks 0 None) same)
     (g ∙ ap (cond (only_t v) (Some (input_operand i))) (scan.1 ∙ ap (λ (ks : List (Maybe Operand)). get_or ks 1 None) same))
+
+-- an input's number, as the table of entries is read by it
+pub input_rest : (n : ℕ) (i : Input) → n ≡ input_number i → n % 4 ≡ input_number i
+input_rest n i e = rw e (input_round i)

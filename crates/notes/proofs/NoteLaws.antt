@@ -3,13 +3,13 @@
 use mathlib.Core.Path.{◌≡◌, refl, sym, ap, ap₂, ◌∙◌}
 use mathlib.Core.Bool.{Bool, true, false, cond}
 use mathlib.Core.List.{List, [], ◌∷◌}
-use Prim.Native.Nat.{ℕ, ◌+◌, ◌-◌, ◌≤◌, ◌<◌}
+use Prim.Native.Nat.{ℕ, suc, ◌+◌, ◌-◌, ◌≤◌, ◌<◌}
 use native.Mathlib.Omega.{arith}
-use borrow.Author.Tests.{eqb-true, eqb-false}
+use borrow.Author.Tests.{eqb-true, eqb-false, le-leb, lt-leb}
 use lib.Dec.{T, eqb, leb}
-use lib.ListN.{length, get_or, set}
+use lib.ListN.{length, get_or, set, length-set}
 use lib.Seq.{get_or-set_same, get_or-set_other}
-use Rattle.tree.specs.Tree.{Operator, union, Tree, leaf, node, is_group, sign, size, most_nodes}
+use Rattle.tree.specs.Tree.{Operator, union, difference, intersection, Tree, leaf, node, is_group, sign, size, most_nodes}
 use Rattle.tree.specs.Context.{left, right, frame, before}
 use Rattle.tree.specs.Parse.{tree_of, is_some, locate}
 use Rattle.tree.proofs.TreeLaws.{size_positive, group_most, sign_least}
@@ -18,6 +18,9 @@ use Rattle.tree.proofs.PartLaws.{part_length, part_leaf, part_node, part_ends, p
 use Rattle.code.specs.Need.{need_of, need, left_first}
 use Rattle.notes.specs.InnerNotes.{NodeAt, no_note, note_at, NotedBelow, middle, left_is_first, HasChildren, ChildrenInOrder}
 use Rattle.notes.specs.declared.Note.{Note}
+use Rattle.tree.specs.InnerWriting.{Wrote}
+use Rattle.player.specs.Instructions.{add, cut, both, kind_of}
+use Rattle.code.specs.Code.{operation}
 use Rattle.code.proofs.NeedLaws.{first, second, need_most}
 
 -- the part of a node whose entry is below the operators is a leaf
@@ -117,6 +120,14 @@ module _ {l : List ℕ} {n : List Note} {i : ℕ} (N : NotedBelow l n i) (p : i 
 pub node_at : {l : List ℕ} (I : IsTree l) (e : ℕ) → e < length l → NodeAt l e (locate I.tree [] e).part
 node_at I e h = record { from = length (before (locate I.tree [] e).above); above = (locate I.tree [] e).above; is = part_of_entry I e h }
 
+-- ---- what the code computes from the notes, by which child comes first
+module _ (n : List Note) (e : ℕ) where
+  pub ordered_left : (note_at n (e - 1)).need ≤ (note_at n (middle n e - 1)).need → ChildrenInOrder n e (middle n e - 1) (e - 1) true
+  ordered_left h = let f = le-leb (note_at n (e - 1)).need (note_at n (middle n e - 1)).need h in record { one = rw f; two = rw f; side = rw f }
+
+  pub ordered_right : (note_at n (middle n e - 1)).need < (note_at n (e - 1)).need → ChildrenInOrder n e (e - 1) (middle n e - 1) false
+  ordered_right h = let f = lt-leb (note_at n (e - 1)).need (note_at n (middle n e - 1)).need h in record { one = rw f; two = rw f; side = rw f }
+
 -- ---- a node's children, in the order of their code
 module _ {l : List ℕ} {n : List Note} {e : ℕ} {o : Operator} {x y : Tree} {v : NodeAt l e (node o x y)} (S : Split l n e o x y v) {one two : ℕ} {f : Bool} (O : ChildrenInOrder n e one two f) where
   pub node_one : NodeAt l one (first x y)
@@ -177,3 +188,18 @@ operands l n i h N lt le = go _ (node_at (the_tree l h) i lt)
           right = omega arith;
           small = omega (arith, S.left_need, need_most x (omega (arith, few)));
         }
+
+-- ---- an instruction
+-- the kind of an operator's instruction, by one test of its number after the other
+pub kind_by_number : (x : ℕ) (o : Operator) → x ≡ sign o
+    → cond (eqb x (sign union)) (kind_of add) (cond (eqb x (sign difference)) (kind_of cut) (kind_of both)) ≡ kind_of (operation o)
+kind_by_number x union h = rw h
+kind_by_number x difference h = rw h
+kind_by_number x intersection h = rw h
+
+pub wrote_four : (out : List ℕ) (at a b c d : ℕ) → Wrote out at (set (set (set (set out at a) (at + 1) b) (at + 2) c) (at + 3) d) (at + 4) (a ∷ b ∷ c ∷ d ∷ [])
+wrote_four out at a b c d =
+    let one : at + 1 ≡ suc at = omega arith in
+    let two : at + 2 ≡ suc (suc at) = omega arith in
+    let three : at + 3 ≡ suc (suc (suc at)) = omega arith in
+    record { list = rw (one, two, three); ends = refl; same = simp length-set }

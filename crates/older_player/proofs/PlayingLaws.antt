@@ -48,6 +48,21 @@ module _ (l : List ℕ) (i : ℕ) (h : i < length l / 4) where
   pub code_miss : of_four wrong_instruction here ≡ false → misplaced (get_or here 0 0) behind ≡ false → wrong_code (drop (4 * i) l) ≡ wrong_code (drop (4 * (i + 1)) l)
   code_miss s u = code_more ∙ rw (s, u)
 
+-- at any position of the code
+module _ (l : List ℕ) (i k : ℕ) (e : i + 4 ≡ k) (h : k ≤ length l) where
+  abbrev wrong_here : Bool
+  wrong_here = wrong_instruction (get_or l i 0) (get_or l (i + 1) 0) (get_or l (i + 2) 0) (get_or l (i + 3) 0) || misplaced (get_or l i 0) (length l - k)
+
+  code_more_at : wrong_code (drop i l) ≡ (wrong_here || wrong_code (drop k l))
+  unfolding wrong_code
+  code_more_at = rw (four_at l i k e h, length-drop)
+
+  pub code_hit_at : wrong_here ≡ true → wrong_code (drop i l) ≡ true
+  code_hit_at s = code_more_at ∙ rw s
+
+  pub code_miss_at : wrong_here ≡ false → wrong_code (drop i l) ≡ wrong_code (drop k l)
+  code_miss_at s = code_more_at ∙ rw s
+
 pub code_end : (l : List ℕ) → length l < 4 → wrong_code l ≡ false
 unfolding wrong_code
 code_end [] h = refl

@@ -44,7 +44,7 @@ module _ {form : Form} {four : List ℕ} {registers : List (List ℕ)} (C : CanS
   target_low = right_target executable
 
   module _ (e : kind ≡ load_kind) where
-    load_left : first ≡ get_or four 2 0
+    pub load_left : first ≡ get_or four 2 0
     load_left = load_stays form kind _ _ e
 
     pub load_step : (G : Rig) (R : Registers) → put R (get_or four 1 0) (G (get_or four 2 0)) ≡ step G (instruction_at form four) R
@@ -54,10 +54,10 @@ module _ {form : Form} {four : List ℕ} {registers : List (List ℕ)} (C : CanS
     group_low = rw load_left at (right_group executable e)
 
   module _ (n : kind ≡ load_kind → ⊥) where
-    left_at : get_or four (left_of form) 0 ≡ first
+    pub left_at : get_or four (left_of form) 0 ≡ first
     left_at = left_there four kind n form
 
-    right_at : get_or four (left_of form + 1) 0 ≡ second
+    pub right_at : get_or four (left_of form + 1) 0 ≡ second
     right_at = right_there four kind n form
 
     pub left_low : get_or four (left_of form) 0 < register_count

@@ -1,7 +1,7 @@
 -- Sets of lamps as bits of a number: an operation on the bits of two numbers is the operation on the two sets.
 use mathlib.Core.Path.{◌≡◌, refl, sym, ap, ap₂, ◌∙◌}
 use mathlib.Core.Bool.{Bool, true, false, not, ◌&&◌, ◌||◌}
-use mathlib.Core.List.{List, ◌++◌, append_assoc}
+use mathlib.Core.List.{List, [], ◌∷◌, ◌++◌, append_assoc}
 use Prim.Native.Nat.{ℕ, zero, suc, ◌+◌, ◌-◌, ◌*◌, ◌/◌, ◌%◌, ◌^◌, ◌≤◌, ◌<◌, min, max}
 use native.Mathlib.Nat.{pow-suc, div-one, add-zero, zero-add, suc-add}
 use native.Mathlib.Omega.{arith}
@@ -10,7 +10,7 @@ use lib.Dec.{eqb}
 use lib.Pow.{pow_pos}
 use lib.Arith.{digits_div, digits_mod}
 use lib.Bits.{bit_or, bit_and, or_step, and_step, or_zero_l, and_zero_l}
-use lib.ListN.{length, drop}
+use lib.ListN.{length, get_or, set, take, drop}
 use borrow.Rule.Slice.PartMut.{put_mid}
 use mir.Syntax.{w64}
 use Rattle.std.specs.Int.{byte_at, bytes_low_first, to_le_bytes}
@@ -19,6 +19,7 @@ use Rattle.std.proofs.lemmas.List.{drop-drop}
 use Rattle.std.proofs.lemmas.Nat.{pow-add}
 use Rattle.player.specs.Instructions.{Lamps, add, cut, both, combined}
 use Rattle.player.specs.Bytes.{bit, pack, bytes_from}
+use Rattle.player.specs.InnerWords.{HoldsSet}
 use Rattle.player.proofs.ByteLaws.{bit_small, pack_small, pack_part, bytes_from_length}
 
 module _ (op digit : ℕ → ℕ → ℕ) (on : Bool → Bool → Bool)
@@ -139,3 +140,28 @@ word_written f old lamps word i count h lt eight before e =
     let first : 1 + 8 * at ≡ 64 * i + 1 = omega arith in
     rw (before, eight, e, take_at (bytes_from f 1 at) (drop at old) at written, drop_at (bytes_from f 1 at) (drop at old) at written, drop-drop 8 at old, next, bytes_more f 1 at 8, first)
     (sym (append_assoc (bytes_from f 1 at) (bytes_from f (64 * i + 1) 8) (drop (at + 8) old)))
+
+-- ---- byte by byte, from the last to the first
+module _ (f : Lamps) (words : List ℕ) (held : HoldsSet words f) where
+  byte_of_words : (i : ℕ) → i < 64 → get_or words (i / 8) 0 / 2 ^ (8 * (i % 8)) % 256 ≡ pack f (8 * i + 1) 8
+  byte_of_words i h =
+      let m : ℕ = 8 * (i % 8) in
+      let first : ℕ = 64 * (i / 8) + 1 in
+      let width : 64 ≡ m + (8 + (56 - m)) = omega arith in
+      let here : first + m ≡ 8 * i + 1 = omega arith in
+      rw (held.entry (i / 8) (omega arith))
+      (ap (λ (n : ℕ). pack f first n / 2 ^ m % 256) width ∙ pack_part f first m 8 (56 - m) ∙ ap (λ (n : ℕ). pack f n 8) here)
+
+  set_last : (l t : List ℕ) (i v : ℕ) → i < length l → set (take (suc i) l ++ t) i v ≡ take i l ++ v ∷ t
+  set_last [] t i v h = absurd (omega arith)
+  set_last (x ∷ l) t zero v h = refl
+  set_last (x ∷ l) t (suc i) v h = ap (λ (y : List ℕ). x ∷ y) (set_last l t i v (omega arith))
+
+  pub byte_written : (old behind : List ℕ) (i j : ℕ) → suc i ≡ j → j ≤ 64 → 64 ≤ length old
+      → set (take j old ++ (bytes_from f (8 * j + 1) (64 - j) ++ behind)) i (get_or words (i / 8) 0 / 2 ^ (8 * (i % 8)) % 256)
+      ≡ take i old ++ (bytes_from f (8 * i + 1) (64 - i) ++ behind)
+  unfolding bytes_from
+  byte_written old behind i j e h k =
+      let n : 64 - i ≡ suc (64 - j) = omega arith in
+      let s : 8 * i + 1 + 8 ≡ 8 * j + 1 = omega arith in
+      rw (byte_of_words i (omega arith), ← e) (set_last old _ i _ (omega arith) ∙ rw (n, s, e))

@@ -14,7 +14,9 @@ use Rattle.player.specs.Limits.{register_count, last_group, last_lamp, byte_coun
 use Rattle.player.specs.Instructions.{Lamps, Instruction, load, operate, lit_lamps, numbers_of, instructions}
 use Rattle.player.specs.Patches.{rig}
 use Rattle.player.specs.Bytes.{bit, bytes}
-use Rattle.player.specs.Playing.{wrong_length, wrong_code, wrong_pair_count, wrong_patch, patch_fault, fault_by, play_fault, bytes_by, Played, played_says, PlaysBy}
+use Rattle.player.specs.Playing.{wrong_length, wrong_code, wrong_pair_count, wrong_patch, patch_fault, fault_by, play_fault, bytes_by, refusal_number, Played, played_says, PlaysBy}
+use Rattle.player.specs.declared.Refusal.{Refusal}
+use Rattle.player.specs.declared.Refusal.TheVariants.{ShortBuffer, WrongLength, WrongInstruction, WrongPairCount, WrongPair}
 use Rattle.player.specs.InnerChecks.{lengths_fault}
 use Rattle.player.proofs.InstructionLaws.{AllWellFormed, kind_not_load, kind_inside, numbers_length}
 use Rattle.player.proofs.FaultLaws.{or_left, or_right}
@@ -64,6 +66,18 @@ pub plays_done : {fault : ℕ} {lit : Lamps} {lamps : List ℕ} {r : Played} {af
 plays_done {fault} {lit} {lamps} {r} P none = only_done r (P.says ∙ rw (eq-eqb fault 0 none))
 
 -- ---- what a call answers
+some_number : (refusal : Refusal) → refusal_number refusal ≡ 0 → ⊥
+some_number ShortBuffer e = omega (arith, e)
+some_number WrongLength e = omega (arith, e)
+some_number WrongInstruction e = omega (arith, e)
+some_number WrongPairCount e = omega (arith, e)
+some_number WrongPair e = omega (arith, e)
+
+pub refused : (fault : ℕ) (lit : Lamps) (lamps : List ℕ) (refusal : Refusal) → refusal_number refusal ≡ fault → PlaysBy fault lit lamps (Err refusal) lamps
+refused fault lit lamps refusal e =
+    let z : eqb fault 0 ≡ false = rw e at (ne_eqb (refusal_number refusal) 0 (some_number refusal)) in
+    record { says = rw (z, e); written = rw z }
+
 pub played : (fault : ℕ) (lit : Lamps) (lamps after : List ℕ) → fault ≡ 0 → after ≡ bytes lit ++ drop byte_count lamps → PlaysBy fault lit lamps (Ok tt) after
 played fault lit lamps after e h =
     let z : eqb fault 0 ≡ true = eq-eqb fault 0 e in
@@ -89,6 +103,28 @@ check_right patch = go (wrong_pair_count (length patch)) (wrong_patch patch)
 pub no_fault : (has22 has23 : Bool) (patch lamps : List ℕ) → byte_count ≤ length lamps → has22 ≡ false → has23 ≡ false → 0 ≡ patch_fault patch
     → fault_by has22 has23 patch lamps ≡ 0
 no_fault has22 has23 patch lamps long h w right = rw (le-ltb (length lamps) byte_count long, h, w, ← right)
+
+-- no fault: the bytes suffice, code and patch are right
+pub record Faultless (has22 has23 : Bool) (patch lamps : List ℕ) : Type 0 where
+  pub long : byte_count ≤ length lamps
+  pub length_right : has22 ≡ false
+  pub code_right : has23 ≡ false
+  pub count_right : wrong_pair_count (length patch) ≡ false
+  pub patch_right : wrong_patch patch ≡ false
+
+pub faultless : (has22 has23 : Bool) (patch lamps : List ℕ) → fault_by has22 has23 patch lamps ≡ 0 → Faultless has22 has23 patch lamps
+faultless b c patch lamps = go (ltb (length lamps) byte_count) refl b c (wrong_pair_count (length patch)) refl (wrong_patch patch) refl
+  where
+    go : (a : Bool) → ltb (length lamps) byte_count ≡ a → (b c d : Bool) → wrong_pair_count (length patch) ≡ d → (e : Bool) → wrong_patch patch ≡ e
+        → fault_by b c patch lamps ≡ 0 → Faultless b c patch lamps
+    go true p b c d q e r h = let z = simp (p, q, r) at h in absurd (omega arith)
+    go false p true c d q e r h = let z = simp (p, q, r) at h in absurd (omega arith)
+    go false p false true true q e r h = let z = simp (p, q, r) at h in absurd (omega arith)
+    go false p false true false q true r h = let z = simp (p, q, r) at h in absurd (omega arith)
+    go false p false true false q false r h = let z = simp (p, q, r) at h in absurd (omega arith)
+    go false p false false true q e r h = let z = simp (p, q, r) at h in absurd (omega arith)
+    go false p false false false q true r h = let z = simp (p, q, r) at h in absurd (omega arith)
+    go false p false false false q false r h = record { long = ltb-false (length lamps) byte_count p; length_right = refl; code_right = refl; count_right = q; patch_right = r }
 
 -- Each lamp's bit says whether the answer holds the lamp.
 pub lamp_bit : (code patch lamps : List ℕ) → play_fault code patch lamps ≡ 0 → (n : ℕ) → 1 ≤ n → n ≤ last_lamp

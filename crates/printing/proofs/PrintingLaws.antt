@@ -1,8 +1,9 @@
 -- The text of instructions, line by line, and how long lines are.
 use mathlib.Core.Path.{◌≡◌, refl, sym, ap, ◌∙◌}
 use mathlib.Core.List.{List, [], ◌∷◌, ◌++◌, map, append_assoc, append-nil}
-use Prim.Native.Nat.{ℕ, suc, ◌/◌, ◌+◌, ◌*◌, ◌^◌, ◌≤◌, ◌<◌}
+use Prim.Native.Nat.{ℕ, suc, ◌/◌, ◌+◌, ◌-◌, ◌*◌, ◌^◌, ◌≤◌, ◌<◌}
 use native.Mathlib.Omega.{arith}
+use borrow.Author.Tests.{eq-eqb, ne_eqb}
 use lib.ListN.{length, get_or, drop, length-append}
 use lib.Seq.{drop-cons}
 use native.Mathlib.Numerals.{add-one}
@@ -24,8 +25,9 @@ use Rattle.older_player.specs.Instructions as older
 use Rattle.older_player.specs.Codes as older-codes
 use Rattle.older_player.proofs.InstructionLaws as older-laws
 use Rattle.common.specs.Fours.{fours}
-use Rattle.printing.specs.Key.{NO, LIFT, HELD, LOAD, SHOW, word_of, instruction_row, older_row, instruction_rows}
-use Rattle.printing.specs.Inner.{row_text, four_row, code_rows}
+use Rattle.common.proofs.ListLaws.{fours_more, fours_end}
+use Rattle.printing.specs.Key.{NO, LIFT, HELD, LOAD, ADD, CUT, BOTH, SHOW, word_of, instruction_row, older_row, instruction_rows}
+use Rattle.printing.specs.Inner.{row_text, row_of, four_row, code_rows}
 use Rattle.printing.specs.declared.Device.{Device}
 use Rattle.printing.specs.declared.Device.TheVariants.{Newer, Older}
 
@@ -53,6 +55,37 @@ up_to_room {whole} rest₁ x rest e w h =
 
 pub up_to_end : {whole out out₁ : List ℕ} {at next : ℕ} (rest : List ℕ) → rest ≡ [] → WroteUpTo whole rest out at out₁ next → Wrote out at out₁ next whole
 up_to_end rest e w = wrote_as w.wrote (sym (append-nil w.front) ∙ ap (λ (l : List ℕ). w.front ++ l) (sym e) ∙ w.is)
+
+-- ---- the line of an instruction, by its kind
+module _ (kind target s t : ℕ) where
+  pub load_text : kind ≡ load_kind → row_text (instruction_row (instruction kind target s t)) ≡ line LOAD (target ∷ s ∷ [])
+  load_text e = rw (eq-eqb kind load_kind e)
+
+  pub operation_text : (kind ≡ load_kind → ⊥) → row_text (instruction_row (instruction kind target s t)) ≡ line (word_of (operation_with kind)) (target ∷ s ∷ t ∷ [])
+  operation_text l = rw (ne_eqb kind load_kind l)
+
+-- of the older player's
+module _ (kind first second : ℕ) where
+  pub older_load_text : kind ≡ load_kind → row_text (older_row (older.instruction kind first second 0)) ≡ line LOAD (first ∷ second ∷ [])
+  older_load_text e = rw (eq-eqb kind load_kind e)
+
+  pub older_show_text : kind ≡ older.show_kind → row_text (older_row (older.instruction kind first second 0)) ≡ line SHOW (first ∷ [])
+  older_show_text e = rw e
+
+  pub older_operation_text : (kind ≡ load_kind → ⊥) → (kind ≡ older.show_kind → ⊥)
+      → row_text (older_row (older.instruction kind first second 0)) ≡ line (word_of (operation_with kind)) (first ∷ second ∷ [])
+  older_operation_text l z = rw (ne_eqb kind load_kind l, ne_eqb kind older.show_kind z)
+
+-- the word of an operation, by its kind
+module _ (kind : ℕ) where
+  pub add_word : kind ≡ kind_of add → word_of (operation_with kind) ≡ ADD
+  add_word e = rw e
+
+  pub cut_word : kind ≡ kind_of cut → word_of (operation_with kind) ≡ CUT
+  cut_word e = rw e
+
+  pub both_word : (kind ≡ kind_of add → ⊥) → (kind ≡ kind_of cut → ⊥) → word_of (operation_with kind) ≡ BOTH
+  both_word a c = rw (ne_eqb kind (kind_of add) a, ne_eqb kind (kind_of cut) c)
 
 -- ---- one instruction more of a code
 abbrev pub code_text : Device → List ℕ → List ℕ
@@ -83,6 +116,23 @@ text_left_next d chunks i h = rw (add-one, drop-cons chunks i [])
 pub text_left_end : (d : Device) (chunks : List (List ℕ)) (i : ℕ) → length chunks ≤ i → text_left d chunks i ≡ []
 unfolding lines
 text_left_end d chunks i h = rw (drop_all i chunks h)
+
+-- the same by the numbers of the code
+pub code_text_next : (d : Device) (code : List ℕ) (i : ℕ) → 4 ≤ length code - i
+    → code_text d (drop i code) ≡ row_text (row_of d (get_or code i 0) (get_or code (i + 1) 0) (get_or code (i + 2) 0) (get_or code (i + 3) 0)) ++ code_text d (drop (i + 4) code)
+unfolding lines
+code_text_next d code i h = rw (fours_more (row_of d) code i (i + 4) refl (omega arith))
+
+pub code_room : (d : Device) {out out₁ : List ℕ} {at next : ℕ} (code : List ℕ) (i : ℕ) → 4 ≤ length code - i → WroteUpTo (code_text d code) (code_text d (drop i code)) out at out₁ next
+    → at + length (code_text d code) ≤ length out
+    → next + length (row_text (row_of d (get_or code i 0) (get_or code (i + 1) 0) (get_or code (i + 2) 0) (get_or code (i + 3) 0))) ≤ length out₁
+code_room d code i h w room =
+    up_to_room (code_text d (drop i code)) (row_text (row_of d (get_or code i 0) (get_or code (i + 1) 0) (get_or code (i + 2) 0) (get_or code (i + 3) 0))) (code_text d (drop (i + 4) code))
+    (code_text_next d code i h) w room
+
+pub code_text_end : (d : Device) (code : List ℕ) → length code < 4 → code_text d code ≡ []
+unfolding lines
+code_text_end d code h = rw (fours_end (row_of d) code h)
 
 -- the lines of the numbers of instructions are the instructions' lines
 rows_of_lem : {I : Type 0} (row_for : I → Row) (instruction : ℕ → ℕ → ℕ → ℕ → I) (l : List ℕ)

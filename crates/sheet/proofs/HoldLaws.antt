@@ -1,6 +1,6 @@
 -- The reader's numbers and arrays follow the state: a line's fault in the reader's numbers, and what each kind of line leaves.
 use mathlib.Core.Path.{◌≡◌, refl, sym, ◌∙◌}
-use mathlib.Core.Bool.{true, false, not, cond, ◌&&◌}
+use mathlib.Core.Bool.{Bool, true, false, not, cond, ◌&&◌}
 use mathlib.Core.List.{List, [], ◌∷◌, ◌++◌}
 use Prim.Native.Nat.{ℕ, ◌+◌, ◌-◌, ◌≤◌, ◌<◌}
 use Rattle.std.proofs.Common.{Option, Some, None, Ok, Err}
@@ -25,7 +25,7 @@ use Rattle.sheet.specs.declared.Line.{Line}
 use Rattle.sheet.specs.declared.Line.TheVariants.{Group, Operator, Lift, Mark, End}
 use Rattle.sheet.specs.declared.Reader.{Reader}
 use Rattle.sheet.proofs.EntriesLaws.{more_group, more_operator}
-use Rattle.sheet.proofs.SoundLaws.{none_of, first_none, first_some, sound_next, sound_mark, sound_lift, sound_end, sound_nothing_read}
+use Rattle.sheet.proofs.SoundLaws.{none_of, first_none, first_some, first_second, sound_next, sound_mark, sound_lift, sound_end, sound_nothing_read}
 
 -- every fault has a number
 pub numbered : (f : Fault) → fault_number f ≡ 0 → ⊥
@@ -40,18 +40,50 @@ numbered UnknownMark e = omega arith
 numbered MarkTwice e = omega arith
 numbered NoEnd e = omega arith
 
+-- where tasks may stand, no line has that fault; and a task without it is in such a file
+pub place_none : (l : Option Line) → 0 ≡ place_fault true l
+place_none (Some (Lift q n)) = refl
+place_none (Some (Mark g)) = refl
+place_none (Some (Group g)) = refl
+place_none (Some (Operator x)) = refl
+place_none (Some End) = refl
+place_none None = refl
+
+pub tasks_may : (tasks : Bool) → ◌≡◌ {A = ℕ} (cond tasks 0 3) 0 → tasks ≡ true
+tasks_may true e = refl
+tasks_may false e = absurd (omega arith)
+
+-- ---- the first of two faults, where the code has the first as f
+pub order_first : (f F rest : ℕ) → f ≡ F → (f ≡ 0 → ⊥) → first_fault F rest ≡ f
+order_first f F rest e n = rw (← e) (first_some f rest n)
+
+pub order_second : (f F rest : ℕ) → f ≡ F → f ≡ 0 → first_fault F rest ≡ rest
+order_second f F rest e z = first_second F rest (sym e ∙ z)
+
 pub marks_few : {rules : Rules} {st : ReadingState} → Sound rules st → length st.marks ≤ most_groups
 marks_few {st = st} S = omega (arith, distinct_most st.marks st.groups S.once S.marked, S.different)
 
 module _ {rules : Rules} {st : ReadingState} {N : ℕ} {p : Reader N} (h : Holds rules st p) where
-  nodes_is : p.nodes ≡ length st.entries
+  pub nodes_is : p.nodes ≡ length st.entries
   nodes_is = omega (arith, h.entries.ends)
 
-  different_is : p.different ≡ length st.groups
+  pub different_is : p.different ≡ length st.groups
   different_is = omega (arith, h.known.ends)
 
-  marked_is : p.marked ≡ length st.marks
+  pub marked_is : p.marked ≡ length st.marks
   marked_is = omega (arith, h.marked.ends)
+
+  pub tree_long : length p.tree ≡ rules.nodes
+  tree_long = h.entries.same ∙ length-replicate rules.nodes 0
+
+  pub groups_long : length p.groups ≡ most_groups
+  groups_long = h.known.same
+
+  pub marks_long : length p.marks ≡ most_groups
+  marks_long = h.marked.same
+
+  pub different_few : p.different ≤ length p.groups
+  different_few = omega (arith, different_is, groups_long, h.sound.different)
 
   pub marked_few : p.marked ≤ most_groups
   marked_few = omega (arith, marked_is, marks_few h.sound)
@@ -99,7 +131,7 @@ module _ {rules : Rules} {st : ReadingState} {N : ℕ} {p : Reader N} (h : Holds
   fault_bad = refl
 
   -- a task in a file without tasks
-  fault_place : (l : Option Line) → (place_fault p.tasks l ≡ 0 → ⊥) → fault_of rules st l ≡ place_fault p.tasks l
+  pub fault_place : (l : Option Line) → (place_fault p.tasks l ≡ 0 → ⊥) → fault_of rules st l ≡ place_fault p.tasks l
   unfolding fault_of
   fault_place (Some (Lift q n)) e = rw (← h.tasks) (first_some _ _ e)
   fault_place (Some (Mark g)) e = rw (← h.tasks) (first_some _ _ e)

@@ -1,6 +1,6 @@
 -- The line at a byte, and one line more of reading.
 use Rattle.std.proofs.Common.{None}
-use mathlib.Core.Path.{◌≡◌, refl, ap}
+use mathlib.Core.Path.{◌≡◌, refl, sym, ap, ◌∙◌}
 use mathlib.Core.Bool.{Bool, true, false, cond}
 use mathlib.Core.List.{List}
 use Prim.Native.Nat.{ℕ, ◌+◌, ◌≤◌, ◌<◌}
@@ -30,6 +30,11 @@ line_past rules s at h = rw (drop_of_length-le s h) (ap (λ (n : ℕ). record { 
 pub line_cut : (rules : Rules) (s : List ℕ) (at : ℕ) → at < length s → ahead line_feed (drop at s) ≡ length (drop at s) → line_at rules s at ≡ record { line = None; next = length s }
 unfolding line_at
 line_cut rules s at h e = rw (split_all line_feed (drop at s) e) (ap (λ (n : ℕ). record { line = None; next = n }) (omega (arith, length-drop at s)))
+
+-- the same from any byte on, by how many bytes are left
+pub line_cut_at : (rules : Rules) (s : List ℕ) (at k : ℕ) → k ≡ ahead line_feed (drop at s) → k ≡ length (drop at s) → line_at rules s at ≡ record { line = None; next = at + k }
+unfolding line_at
+line_cut_at rules s at k e h = rw (split_all line_feed (drop at s) (sym e ∙ h), h)
 
 pub line_whole : (rules : Rules) (s : List ℕ) (at k : ℕ) → k ≡ ahead line_feed (drop at s) → k < length (drop at s) → line_at rules s at ≡ record { line = line_of rules (take k (drop at s)); next = at + k + 1 }
 unfolding line_at

@@ -1,6 +1,6 @@
 -- Laws for the code: the rows of a table and of its parts, how many leaves a tree is estimated at, and one turn of the scans.
 use Rattle.std.specs.Prelude.{Option, Some, None}
-use mathlib.Core.Path.{◌≡◌, refl, sym, ap, subst, ◌∙◌}
+use mathlib.Core.Path.{◌≡◌, refl, sym, ap, ap₂, subst, ◌∙◌}
 use mathlib.Core.Bool.{Bool, true, false, not, cond}
 use mathlib.Core.List.{List, [], ◌∷◌}
 use Prim.Native.Nat.{ℕ, zero, suc, ◌+◌, ◌-◌, ◌*◌, ◌/◌, ◌^◌, ◌<◌, ◌≤◌}
@@ -15,17 +15,17 @@ use Rattle.tree.specs.Tree.{most_groups}
 use Rattle.table.specs.InnerTable.{tabulate}
 use Rattle.table.proofs.TableLaws.{length_tabulate}
 use Rattle.free_tables.specs.InnerSearch.{first_failing}
-use Rattle.free_tables.specs.InnerTables.{Table, half, first_part, second_part, Splits, Parted}
+use Rattle.free_tables.specs.InnerTables.{Table, half, first_part, second_part, usable, Splits, Parted}
 use Rattle.forms.specs.declared.Row.{Row}
 use Rattle.forms.specs.declared.Form.{Form}
 use Rattle.forms.specs.declared.Form.TheVariants.{Drop, Less, Plus, ReducedPlus, JoinedLess, LessOutside, ReducedUnion, JoinedDifference}
 use Rattle.free_tables.specs.declared.Parts.{Parts}
-use Rattle.splits.specs.InnerSplits.{form_count, form_of, is_drop, allowed_top, first_top, use_below, use_of, first_holder, second_holder, leaves_by, estimate, cost_by, never, candidate_form, candidate_variable, candidate_use, candidate_by, candidate, cost, least, choose, Sized}
+use Rattle.splits.specs.InnerSplits.{form_count, form_of, is_drop, allowed_top, first_top, use_below, use_of, first_holder, second_holder, leaves_by, estimate, cost_by, never, candidate_form, candidate_variable, candidate_use, candidate_by, candidate, cost, least, choose, split_taken, Sized}
 use Rattle.splits.specs.declared.Holder.{Holder}
-use Rattle.splits.specs.declared.Holder.TheVariants.{Absent}
+use Rattle.splits.specs.declared.Holder.TheVariants.{Absent, Dropped, Held}
 use Rattle.splits.specs.declared.Plan.{Plan}
 use Rattle.splits.specs.declared.Split.{Split}
-use Rattle.splits.specs.declared.Plan.TheVariants.{Plain}
+use Rattle.splits.specs.declared.Plan.TheVariants.{Plain, First, Second}
 
 -- ---- the forms by number
 pub forms_at : (i : ℕ) → i < form_count → get_or (Drop ∷ Less ∷ Plus ∷ ReducedPlus ∷ JoinedLess ∷ LessOutside ∷ ReducedUnion ∷ JoinedDifference ∷ []) i Drop ≡ form_of i
@@ -77,6 +77,11 @@ module _ {t : Table} {n : ℕ} {form : Form} {step : ℕ} {r : Parts} (s : Sized
   second_sized = part_sized _ s h.second
 
 -- ---- the highest variable
+pub allowed_not : (m : Holder) (form : Form) (t : Table) → usable form t (half t) ≡ false → false ≡ allowed_top m form t
+allowed_not Absent form t e = sym e
+allowed_not Dropped form t e = rw e
+allowed_not Held form t e = rw e
+
 -- the scan for the first form that may
 abbrev pub refused : Holder → Table → ℕ → Bool
 refused m t i = not (allowed_top m (form_of i) t)
@@ -93,6 +98,11 @@ pub below_sized : {t : Table} {n : ℕ} (v : ℕ) → Sized t (suc n) → v < n 
 below_sized {n = n} v s h =
     let e : suc (suc (n - 1)) ≡ suc n = omega arith in
     (n - 1, rw e s, omega arith)
+
+pub below_not : (m : Holder) (form : Form) (t : Table) (step : ℕ) → usable form t step ≡ false → None ≡ use_below m form t step
+below_not Absent form t step e = rw e
+below_not Dropped form t step e = refl
+below_not Held form t step e = rw e
 
 module _ (m : Holder) (form : Form) (t : Table) (n v : ℕ) where
   pub use_below_top : v < n → use_of m form t n v ≡ use_below m form t (2 ^ v)
@@ -175,6 +185,24 @@ variable_most n i = go (ltb (i / form_count) n) refl
     go false e = omega arith
 
 -- a split that is allowed
+module _ (plan : Plan) (form : Form) (t : Table) (n step : ℕ) where
+  pub cost_is : (a b : ℕ) → a ≡ estimate n (first_holder plan) (first_part form t step) → b ≡ estimate n (second_holder plan) (second_part form t step)
+      → leaves_by form a b ≡ cost_by (Some plan) form t n step
+  cost_is a b p q = ap₂ (leaves_by form) p q
+
+  pub cost_drop : (a : ℕ) → is_drop form ≡ true → a ≡ estimate n (first_holder plan) (first_part form t step) → a ≡ cost_by (Some plan) form t n step
+  cost_drop a d p = sym (leaves_drop form a _ d) ∙ cost_is a _ p refl
+
+-- what is not none
+pub plain_is : Some Plain ≡ None → ⊥
+plain_is e = cc
+
+pub first_is_lem : Some First ≡ None → ⊥
+first_is_lem e = cc
+
+pub second_is : Some Second ≡ None → ⊥
+second_is e = cc
+
 cost_below : (plan : Plan) (form : Form) (t : Table) (n step : ℕ) → n ≤ most_groups → cost_by (Some plan) form t n step < never
 cost_below plan form t n step h =
     let a = estimate n (first_holder plan) (first_part form t step) in
@@ -183,6 +211,21 @@ cost_below plan form t n step h =
     omega (arith, leaves_most form a b, estimate_most n (first_holder plan) (first_part form t step), estimate_most n (second_holder plan) (second_part form t step))
 
 -- a candidate by what was found of it
+module _ (m : Holder) (t : Table) (n i : ℕ) {plan : Option Plan} {form : Form} {v : ℕ}
+    (p : plan ≡ candidate_use m t n i) (q : form ≡ candidate_form i) (w : v ≡ candidate_variable n i) where
+  pub cost_case : cost_by plan form t n (2 ^ v) ≡ cost m t n i
+  unfolding cost
+  cost_case = rw (p, q, w)
+
+  pub split_case : (x : Plan) → plan ≡ Some x → ◌≡◌ {A = Split} (record { form = form; variable = v; plan = x }) (split_taken m t n i)
+  unfolding split_taken
+  split_case x e = rw (← p, e) (rw (q, w))
+
+pub split_none : (m : Holder) (t : Table) (n i : ℕ) {plan : Option Plan} {form : Form} → plan ≡ candidate_use m t n i → plan ≡ None → form ≡ top_form m t
+    → ◌≡◌ {A = Split} (record { form = form; variable = n; plan = Plain }) (split_taken m t n i)
+unfolding split_taken
+split_none m t n i p e q = rw (← p, e, q)
+
 module _ (m : Holder) (t : Table) (n i : ℕ) where
   module _ {form : Form} {v : ℕ} (q : form ≡ candidate_form i) (w : v ≡ candidate_variable n i) where
     pub candidate_none : use_of m form t n v ≡ None → None ≡ candidate m t n i
@@ -221,7 +264,7 @@ module _ (m : Holder) (t : Table) (n i : ℕ) where
       go (Some s) e = omega (arith, cost_small h e)
 
 -- ---- the least number: one turn of the scan
-least_start : (f : ℕ → ℕ) → least f 1 ≡ 0
+pub least_start : (f : ℕ → ℕ) → least f 1 ≡ 0
 unfolding least
 least_start f = go (ltb (f 0) (f 0))
   where
@@ -229,11 +272,11 @@ least_start f = go (ltb (f 0) (f 0))
     go true = refl
     go false = refl
 
-least_new : (f : ℕ → ℕ) (i : ℕ) → f i < f (least f i) → least f (i + 1) ≡ i
+pub least_new : (f : ℕ → ℕ) (i : ℕ) → f i < f (least f i) → least f (i + 1) ≡ i
 unfolding least
 least_new f i h = rw (add-one i, lt-ltb (f i) (f (least f i)) h)
 
-least_old : (f : ℕ → ℕ) (i : ℕ) → f (least f i) ≤ f i → least f (i + 1) ≡ least f i
+pub least_old : (f : ℕ → ℕ) (i : ℕ) → f (least f i) ≤ f i → least f (i + 1) ≡ least f i
 unfolding least
 least_old f i h = rw (add-one i, le-ltb (f i) (f (least f i)) h)
 
@@ -287,6 +330,10 @@ module _ (m : Holder) (t : Table) (n i : ℕ) (few : n ≤ most_groups) {leaves 
       go : (k : ℕ) → (k ≡ 0 → Some x ≡ None) → 0 < k
       go zero f = let z = f refl in cc
       go (suc k) f = omega arith
+
+pub choose_is : (m : Holder) (t : Table) (n i b : ℕ) → b ≡ least (cost m t n) i → i ≡ form_count * (n + 1) → b ≡ choose m t n
+unfolding choose
+choose_is m t n i b e q = e ∙ ap (least (cost m t n)) q
 
 pub best_all : (m : Holder) (t : Table) (n i : ℕ) {best : Option Split} {leaves : ℕ} → Best m t n i best leaves → i ≡ form_count * (n + 1) → best ≡ candidate m t n (choose m t n)
 unfolding choose

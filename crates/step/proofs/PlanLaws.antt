@@ -120,6 +120,7 @@ module _ {l : List ℕ} {a : Tree} {c : List Frame} {above₁ : Above} (G : Unde
               own = λ e. refl;
               table = λ e. absurd (true≢false e);
               input_is = i.1;
+              small = λ e. absurd (true≢false e);
               letter_is = q;
               same_entry = λ j e. all_alike (ours x) h j i.0;
               names_once = once_entry ours ours_right x i.0;
@@ -202,6 +203,7 @@ module _ {l : List ℕ} {a : Tree} {c : List Frame} {above₁ : Above} (G : Unde
                     own = λ e. absurd (false≢true e);
                     table = λ e. refl;
                     input_is = ap operand_number same ∙ input_column i;
+                    small = λ e. letter;
                     letter_is = letter;
                     same_entry = λ j e. (let z : j ≡ i = cc in ap (entry_of (m x)) z);
                     names_once = once_entry m R x i;

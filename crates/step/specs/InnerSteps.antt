@@ -1,5 +1,5 @@
 -- What the functions for one step answer: a part's frame, the plan of a step, and the step itself. No contract of one of 01's calls cites this file.
-use Rattle.std.specs.Prelude.{◌≡◌, true, false, List, ◌∷◌, ◌++◌, ℕ, ◌≤◌, ◌<◌, T, length, take, Result, Ok, Err}
+use Rattle.std.specs.Prelude.{◌≡◌, true, false, List, ◌∷◌, ◌++◌, ℕ, ◌≤◌, ◌<◌, T, length, take, Result, Ok, Err, Some}
 use Rattle.std.proofs.Math.Option.{Option, some}
 use Rattle.tree.specs.Tree.{Operator, Tree, node, size, postfix, most_nodes}
 use Rattle.tree.specs.Context.{Side, Frame, frame, sided, plug}
@@ -9,7 +9,7 @@ use Rattle.moves.specs.Moves.{State, state_number, Input, input_number, Move, Mo
 use Rattle.words.specs.Formula.{frames_of, once}
 use Rattle.moves.specs.NextState.{state_in, left_above, state_after}
 use Rattle.words.specs.InnerWords.{cut, Range}
-use Rattle.moves.specs.InnerEntries.{InputIs, column, entry_of, only_t, WordIs, TableIs}
+use Rattle.moves.specs.InnerEntries.{input_operand, InputIs, column, entry_of, only_t, WordIs, TableIs}
 use Rattle.step.specs.Step.{stuck, blocked, moved, step}
 use Rattle.step.specs.InnerStanding.{Standing}
 use Rattle.step.specs.declared.Node.{Node}
@@ -47,6 +47,7 @@ pub record ReplaceIs (m : MoveTable) (list : List ℕ) (n : Node) (c : List Fram
   pub own : p.alone ≡ true → move ≡ ours at_state
   pub table : p.alone ≡ false → move ≡ m at_state
   pub input_is : column p.input ≡ input_number at_input
+  pub small : p.alone ≡ false → p.input ≡ Some (input_operand at_input)
   pub letter_is : InputIs p.input letter
   pub same_entry : (i : Input) → letter ≡ some i → entry_of move i ≡ entry_of move at_input
   pub names_once : T (once (entry_of move at_input))

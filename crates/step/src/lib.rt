@@ -12,7 +12,8 @@ ghost use Rattle.step.specs.InnerStanding.{StateIs, Standing, Stands};
 ghost use Rattle.step.specs.InnerSteps.{ReplaceIs, Planned, Carries, CarriesSome, PlannedSome, StepIs};
 
 use moves::{LAST_ALONE, TableWords};
-use tree::{Operand, Stretch};
+use tree::Operand;
+pub use tree::Stretch;
 use words::MOST_SIGNS;
 
 // A node of a tree's list: its part, and its state, if it has one. States are numbers, as the papers number them.

@@ -118,6 +118,10 @@ unfolding fields_after
 fields_append [] b = refl
 fields_append (n ∷ a) b = rw (fields_append a b) (sym (append_assoc (field n) (fields_after a) (fields_after b)))
 
+pub fields_none : (ns : List ℕ) → fields_after (take 0 ns) ≡ []
+unfolding fields_after
+fields_none ns = refl
+
 -- one field more of the numbers that are written
 pub fields_next : (ns : List ℕ) (i : ℕ) → i < length ns → fields_after (take i ns) ++ field (get_or ns i 0) ≡ fields_after (take (i + 1) ns)
 unfolding fields_after

@@ -7,10 +7,10 @@ use native.Mathlib.Nat.{not-suc-le-zero, add_comm}
 use native.Mathlib.Numerals.{add-one}
 use native.Mathlib.Omega.{arith}
 use Rattle.std.proofs.lemmas.Bool.Decides.{nat_tests}
-use borrow.Author.Tests.{eq-eqb, eqb-true, ltb-true, ltb-false}
+use borrow.Author.Tests.{eq-eqb, ne_eqb, eqb-true, ltb-true, ltb-false}
 use lib.Dec.{eqb, ltb}
-use lib.ListN.{length, take, drop, length-drop}
-use lib.Seq.{take_all}
+use lib.ListN.{length, get_or, take, drop, drop_of_length-le, length-drop}
+use lib.Seq.{drop-cons, take_all}
 use Rattle.std.proofs.Common.{Option, Some, None}
 use Rattle.std.specs.Option.{MatchOption}
 use Rattle.std.specs.List.{position_or_len}
@@ -90,6 +90,20 @@ ahead_most b (x ∷ xs) = go (eqb b x) (ahead_most b xs)
     go : (t : Bool) → ahead b xs ≤ length xs → cond t 0 (ahead b xs + 1) ≤ suc (length xs)
     go true h = omega arith
     go false h = omega arith
+
+-- ---- how far it is, byte by byte
+module _ (b : ℕ) (s : List ℕ) (i : ℕ) where
+  pub ahead_here : i < length s → get_or s i 0 ≡ b → ahead b (drop i s) ≡ 0
+  unfolding ahead
+  ahead_here h e = rw (drop-cons s i 0 h, eq-eqb b (get_or s i 0) (sym e))
+
+  pub ahead_next : i < length s → (get_or s i 0 ≡ b → ⊥) → ahead b (drop i s) ≡ ahead b (drop (i + 1) s) + 1
+  unfolding ahead
+  ahead_next h e = rw (drop-cons s i 0 h, ne_eqb b (get_or s i 0) (λ q. e (sym q)), add-one i)
+
+  pub ahead_end : length s ≤ i → ahead b (drop i s) ≡ 0
+  unfolding ahead
+  ahead_end h = rw (drop_of_length-le s h)
 
 -- ---- how far `position` goes
 eqb_turned : (a b : ℕ) → eqb a b ≡ eqb b a

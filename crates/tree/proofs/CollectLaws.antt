@@ -57,3 +57,6 @@ module _ (found list : List ℕ) (count i : ℕ) where
       let b = collect_longer (take count found ++ (get_or list i 0 ∷ [])) (leaves_in (drop (i + 1) list)) in
       let c : length gs ≡ length (collect (take count found ++ (get_or list i 0 ∷ [])) (leaves_in (drop (i + 1) list))) = ap length (sym q ∙ collect_new (take count found) list i h l e) in
       omega (arith, length-append (take count found) (get_or list i 0 ∷ []))
+
+  pub collected : (gs : List ℕ) (r : Groups) → r.list ≡ found → r.count ≡ count → length list ≤ i → collect (take count found) (leaves_in (drop i list)) ≡ gs → Collected gs (Some r)
+  collected gs r e n h q = rw (e, n) (sym (collect_end (take count found) list i h) ∙ q)

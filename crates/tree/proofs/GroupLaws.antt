@@ -4,15 +4,16 @@
 use mathlib.Core.Path.{◌≡◌, refl, sym, ap, ap₂, subst, ◌∙◌}
 use mathlib.Core.Bool.{Bool, true, false, cond, ◌||◌, true≢false, false≢true}
 use mathlib.Core.List.{List, [], ◌∷◌, ◌++◌, append_assoc, append-nil}
-use Prim.Native.Nat.{ℕ, suc, ◌≤◌, ◌<◌}
+use Prim.Native.Nat.{ℕ, suc, ◌+◌, ◌≤◌, ◌<◌}
 use native.Mathlib.Omega.{arith}
 use borrow.Author.Tests.{eqb-true, eqb-false, eq-eqb, ne_eqb, lt-ltb}
 use lib.Dec.{T, eqb, ltb}
-use lib.ListN.{length, length-append}
+use lib.ListN.{length, length-append, get_or, drop, drop_of_length-le}
 use Rattle.std.specs.List.{list_any}
 use Rattle.std.proofs.lemmas.Bool.Decides.{nat_tests}
 use Rattle.tree.specs.Tree.{Operator, union, difference, intersection, sign, Tree, leaf, node, is_group, postfix, leaves, is_in, with_new, collect, groups, Over}
 use Rattle.tree.specs.InnerGroups.{Distinct, leaves_in}
+use Rattle.tree.proofs.PassLaws.{here}
 use Rattle.tree.proofs.TreeLaws.{group_most, is_in_append, in_left, in_right, over_leaves, leaves_over, over_implies, or_false, or_right, or_cases}
 
 -- ---- membership
@@ -202,7 +203,21 @@ collect_distinct xs (y ∷ ys) d =
     ∙ collect_distinct (xs ++ (y ∷ [])) ys (subst Distinct (sym (append_assoc xs (y ∷ []) ys)) d)
     ∙ append_assoc xs (y ∷ []) ys
 
--- ---- a search, in std's words
+-- ---- a search, from the number at index i on
+module _ (xs : List ℕ) (i x : ℕ) where
+  pub in_here : i < length xs → x ≡ get_or xs i 0 → is_in (drop i xs) x ≡ true
+  unfolding is_in
+  in_here h e = rw (here xs i h, eq-eqb x (get_or xs i 0) e)
+
+  pub in_on : i < length xs → (x ≡ get_or xs i 0 → ⊥) → is_in (drop i xs) x ≡ is_in (drop (i + 1) xs) x
+  unfolding is_in
+  in_on h e = rw (here xs i h, ne_eqb x (get_or xs i 0) e)
+
+  pub in_none : length xs ≤ i → is_in (drop i xs) x ≡ false
+  unfolding is_in
+  in_none h = rw (drop_of_length-le xs h)
+
+-- ---- and in std's words
 pub is_in_any : (xs : List ℕ) (x : ℕ) → is_in xs x ≡ list_any (λ y. eqb y x) xs
 unfolding is_in
 is_in_any [] x = refl

@@ -1,17 +1,19 @@
 -- The scans `scan_onward` and `scan_backward`: one turn of each loop, and what they pass in a tree's list.
 use mathlib.Core.Path.{◌≡◌, refl, ap, ◌∙◌}
-use mathlib.Core.Bool.{Bool, true, false, cond}
+use mathlib.Core.Bool.{Bool, true, false, cond, true≢false}
 use mathlib.Core.List.{List, [], ◌∷◌, ◌++◌, append_assoc, reverse, reverse-append}
 use Prim.Native.Nat.{ℕ, suc, ◌+◌, ◌-◌, ◌≤◌, ◌<◌}
 use native.Mathlib.Omega.{arith}
-use borrow.Author.Tests.{le-leb, lt-leb}
+use borrow.Author.Tests.{le-leb, lt-leb, ne_eqb}
 use lib.Dec.{T, leb}
 use lib.ListN.{length, get_or, take, drop, length-reverse, drop_of_length-le}
 use lib.Seq.{take-suc, length-take-le}
 use Rattle.tree.specs.Tree.{Operator, union, difference, intersection, Tree, leaf, node, is_group, sign, postfix, size}
-use Rattle.tree.specs.InnerScan.{is_operator, onward, backward}
+use Rattle.tree.specs.Pass.{classify, entry_of}
+use Rattle.tree.specs.InnerScan.{entry_kind, is_operator, onward, backward}
+use Rattle.tree.specs.declared.EntryKind.TheVariants.{Operator as AnOperator, Neither}
 use Rattle.tree.proofs.TreeLaws.{group_most}
-use Rattle.tree.proofs.PassLaws.{here}
+use Rattle.tree.proofs.PassLaws.{here, entry_sign}
 
 -- ---- one turn of each loop
 module _ (l : List ℕ) (i k : ℕ) where
@@ -101,3 +103,16 @@ backward_postfix (node o x y) n r p =
     ∙ ap (λ (b : Bool). cond b (length (reverse (postfix x) ++ r)) (backward (n + 1 - 1) (reverse (postfix x) ++ r))) (lt-leb (n + 1) 1 (omega arith))
     ∙ ap (λ (m : ℕ). backward m (reverse (postfix x) ++ r)) e
     ∙ backward_postfix x n r p
+
+-- ---- an entry's kind, of an operator's sign and of a number that is neither (a group's: ParseLaws.antt)
+module _ (x : ℕ) where
+  pub kind_operator : (o : Operator) → x ≡ sign o → entry_kind (entry_of x) ≡ AnOperator
+  kind_operator o e = ap entry_kind (ap entry_of e ∙ entry_sign o)
+
+  pub kind_neither : is_group x ≡ false → ((o : Operator) → x ≡ sign o → ⊥) → entry_kind (entry_of x) ≡ Neither
+  unfolding entry_of
+  kind_neither e n = go (is_group x) refl e
+    where
+      go : (b : Bool) (q : is_group x ≡ b) → b ≡ false → entry_kind (classify x b q) ≡ Neither
+      go true q f = absurd (true≢false f)
+      go false q f = rw (ne_eqb x (sign union) (n union), ne_eqb x (sign difference) (n difference), ne_eqb x (sign intersection) (n intersection))

@@ -66,6 +66,25 @@ module _ (w : List ℕ) (i n : ℕ) where
         pub after_operator : 2 ≤ n → kinds_after n (drop i w) ≡ kinds_after (n - 1) (drop (i + 1) w)
         after_operator m = by_operator e ∙ simp (le-ltb n 2 m)
 
+-- ---- what `frame_after` answers
+pub no_frame : (w : List ℕ) (from n end : ℕ) → kinds_after 0 (drop from w) ≡ kinds_after n (drop end w) → ((m : ℕ) → kinds_after m (drop end w) ≡ []) → FrameAfter w from None
+no_frame w from n end e f = e ∙ f n
+
+pub a_frame : (w : List ℕ) (from : ℕ) (k : Operand) (k' : Option Operand) (end : ℕ) → kinds_after 0 (drop from w) ≡ k' ∷ kinds_after 0 (drop end w) → Some k ≡ k'
+    → FrameAfter w from (Some (record { operand = k; end = end }))
+a_frame w from k k' end e f = e ∙ ap (λ (x : Option Operand). x ∷ kinds_after 0 (drop end w)) (sym f)
+
+-- ---- a turn of a scan for A
+module _ (w : List ℕ) (i : ℕ) where
+  pub trailing_at : i < length w → get_or w i 0 ≡ first_part → drop (i + 1) w ≡ trailing (drop i w)
+  trailing_at h e = sym (rw (here w i h) (unfold trailing in simp (eq-eqb (get_or w i 0) 65 e)))
+
+  pub trailing_more : i < length w → (get_or w i 0 ≡ first_part → ⊥) → trailing (drop i w) ≡ trailing (drop (i + 1) w)
+  trailing_more h n = rw (here w i h) (unfold trailing in simp (ne_eqb (get_or w i 0) 65 n))
+
+  pub trailing_end : length w ≤ i → drop (i + 1) w ≡ trailing (drop i w)
+  trailing_end h = (let k : length w ≤ i + 1 = omega arith in drop_of_length-le w k) ∙ sym (rw (drop_of_length-le w h) (unfold trailing in refl))
+
 -- ---- what `place_of_a` answers
 -- the place of the first sign that is A's, or the end
 pub place_is : (w : List ℕ) (r : ℕ) → r ≤ length w → ((k : ℕ) → k < r → get_or w k 0 ≡ first_part → ⊥) → (r < length w → get_or w r 0 ≡ first_part) → PlaceIs w r
@@ -180,3 +199,7 @@ module _ {w : List ℕ} (from : ℕ) (e : drop from w ≡ trailing w) where
       second None parent F G = ap (option_map (λ f. f.operand)) G ∙ sym (ap (λ x. get_or x 1 None) F)
       second (Some f) None F G = sym (ap (λ x. get_or x 0 None) G) ∙ sym (ap (λ x. get_or x 1 None) F)
       second (Some f) (Some g) F G = sym (ap (λ x. get_or x 0 None) G) ∙ sym (ap (λ x. get_or x 1 None) F)
+
+pub two_frames : {w : List ℕ} (from : ℕ) (own parent : WordFrame) → drop from w ≡ trailing w → FrameAfter w from (Some own) → FrameAfter w own.end (Some parent)
+    → AboveIs w (record { own = Some own.operand; parent = Some parent.operand })
+two_frames {w} from own parent e F G = frames_found from e (Some own) (Some parent) F G refl refl

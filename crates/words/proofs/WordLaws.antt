@@ -5,14 +5,15 @@ use mathlib.Core.List.{List, [], ◌∷◌, ◌++◌, append_assoc, append-nil}
 use Prim.Native.Nat.{ℕ, zero, suc, ◌+◌, ◌-◌, ◌≤◌, ◌<◌}
 use native.Mathlib.Omega.{arith}
 use native.Mathlib.Numerals.{add-one}
-use borrow.Author.Tests.{leb-true}
+use borrow.Author.Tests.{leb-true, ne_eqb, eq-eqb}
 use lib.Dec.{T, leb}
-use lib.ListN.{length, get_or, take, drop, replicate, length-append, length-take, length-drop, take-append-drop}
+use lib.ListN.{length, get_or, take, drop, replicate, length-append, length-take, length-drop, take-append-drop, drop_of_length-le}
 use lib.Seq.{take-suc}
 use Rattle.tree.specs.Tree.{Basic, plus, minus, operator_of, Tree, node, sign, postfix}
 use Rattle.tree.specs.declared.Stretch.{Stretch}
 use Rattle.tree.specs.Context.{left, right, Frame, frame, before}
 use Rattle.tree.proofs.TreeLaws.{and_left}
+use Rattle.tree.proofs.PassLaws.{here}
 use Rattle.std.specs.Prelude.{Some, None}
 use Rattle.words.specs.Formula.{Formula, A, B, C, D, join, names_a, value, frames_of, once}
 use Rattle.words.specs.Word.{operator_sign, word}
@@ -88,6 +89,21 @@ module _ (l : List ℕ) (parts : List Stretch) where
       ap (λ (x : List ℕ). length (spell l parts x)) (sym (take-append-drop i w)) ∙ ap length (spell_append (take i w) (drop i w))
       ∙ length-append (spell l parts (take i w)) (spell l parts (drop i w)) in
       omega arith
+
+-- ---- the signs before A
+-- where a scan for A stands at i: at A, at another sign, past the end
+module _ (w : List ℕ) (i : ℕ) where
+  pub leading_at : i < length w → leading w ≡ take i w ++ leading (drop i w) → get_or w i 0 ≡ first_part → take i w ≡ leading w
+  leading_at h p e = sym (p ∙ ap (λ (x : List ℕ). take i w ++ x) (rw (here w i h) (unfold leading in simp (eq-eqb (get_or w i 0) 65 e))) ∙ append-nil (take i w))
+
+  pub leading_more : i < length w → leading w ≡ take i w ++ leading (drop i w) → (get_or w i 0 ≡ first_part → ⊥) → leading w ≡ take (i + 1) w ++ leading (drop (i + 1) w)
+  leading_more h p n =
+      let e : leading (drop i w) ≡ get_or w i 0 ∷ leading (drop (i + 1) w) = rw (here w i h) (unfold leading in simp (ne_eqb (get_or w i 0) 65 n)) in
+      p ∙ rw e (sym (ap (λ (x : List ℕ). x ++ leading (drop (i + 1) w)) (ap (λ (k : ℕ). take k w) (add-one i) ∙ take-suc w i 0 h)
+      ∙ append_assoc (take i w) (get_or w i 0 ∷ []) (leading (drop (i + 1) w))))
+
+  pub leading_all : length w ≤ i → leading w ≡ take i w ++ leading (drop i w) → take i w ≡ leading w
+  leading_all h p = sym (p ∙ ap (λ (x : List ℕ). take i w ++ x) (rw (drop_of_length-le w h) (unfold leading in refl)) ∙ append-nil (take i w))
 
 -- ---- a formula's word
 pub not_named : (o : Basic) (p q : Formula) → names_a (join o p q) ≡ false → (names_a p ≡ false) × (names_a q ≡ false)
