@@ -50,7 +50,6 @@ fn operator_at(list: &[u16], i: usize) -> Option<u16>
 // stand in `waiting`, from index 1 on, with their number beside it (no heap). A leaf that is a right operand never waits, so a turn
 // takes one entry or two, and the index is counted by hand: a `for` in which each leaf waits was tried and is slower
 // (docs/DECISIONS.md, Speed).
-#[inline(never)]
 fn eval(list: &[u16], places: &[u8; tree::MOST_NODES], row: usize) -> bool
     requires { Listed list.now × (row < row_count) × ((groups : List ℕ) × ArePlaces list.now groups places.now) }
     ensures { (t : Tree) (groups : List ℕ) → list.now ≡ postfix t → ArePlaces list.now groups places.now
