@@ -4,7 +4,7 @@ use mathlib.Core.Path.{◌≡◌, refl, sym, ap, ap₂, fun_ext, ◌∙◌}
 use mathlib.Core.Bool.{Bool, true, false, not, cond, ◌||◌, true≢false, false≢true}
 use mathlib.Core.List.{List, [], ◌∷◌, ◌++◌}
 use Prim.Native.Nat.{ℕ, zero, suc, ◌+◌, ◌*◌, ◌/◌, ◌%◌, ◌^◌, min, ◌<◌, ◌≤◌}
-use native.Mathlib.Nat.{mul_assoc, mul_comm, pow-suc, div-one}
+use native.Mathlib.Nat.{mul_assoc, mul_comm, pow-suc, div-one, div-eq_of_lt}
 use native.Mathlib.Omega.{arith}
 use lib.Pow.{pow_mono, shr-shr}
 use lib.Dec.{eqb, leb, ltb}
@@ -165,6 +165,23 @@ filling_first (x ∷ gs) g row = go (eqb x g) refl (filling_first gs g (row / 2)
     go true e ih = rw (eq-eqb g x (sym (eqb-true x g e)), div-one row, lt-ltb 0 (suc (length gs)) (omega arith))
     go false e ih = rw (ne_eqb g x (λ q. eqb-false x g e (sym q)), ih, shr-shr row 1 (first gs g), past (first gs g) (length gs))
 
+-- that place, or the bit after the last where it is beyond a row's bits or there is none
+pub place_is : (gs : List ℕ) (g : ℕ) → IsPlace gs g (min (unwrap_or (position (λ x. x == g) gs) most_groups) most_groups)
+place_is gs g = go (ltb (first gs g) (length gs)) refl
+  where
+    far : (n row : ℕ) → most_groups ≤ n → row < row_count → row / 2 ^ n ≡ 0
+    far n row h r = let p : 2 ^ 8 ≤ 2 ^ n = pow_mono h in div-eq_of_lt (omega arith)
+
+    near : (n row : ℕ) → row < row_count → row / 2 ^ min n most_groups ≡ row / 2 ^ n
+    near n row r = elim (leb n most_groups) as (λ b. leb n most_groups ≡ b → row / 2 ^ min n most_groups ≡ row / 2 ^ n) [
+      | true ↦ λ e. let l = leb-true n most_groups e in let m : min n most_groups ≡ n = omega arith in rw m
+      | false ↦ λ e. let l = leb-false n most_groups e in let m : min n most_groups ≡ most_groups = omega arith in rw (m, far most_groups row (omega arith) r, far n row (omega arith) r)
+    ] refl
+
+    go : (b : Bool) → ltb (first gs g) (length gs) ≡ b → IsPlace gs g (min (unwrap_or (cond b (Some (first gs g)) None) most_groups) most_groups)
+    go true e = record { small = omega arith; says = λ row r. rw (filling_first gs g row, e, near (first gs g) row r) }
+    go false e = record { small = omega arith; says = λ row r. rw (filling_first gs g row, e, far most_groups row (omega arith) r) }
+
 -- groups after those that a row has bits for are in none
 filling_take : (n : ℕ) (gs : List ℕ) (row g : ℕ) → row < 2 ^ n → filling (take n gs) row g ≡ filling gs row g
 unfolding filling
@@ -172,9 +189,8 @@ filling_take zero gs row g h = let z : row ≡ 0 = omega arith in rw (z, filling
 filling_take (suc n) [] row g h = refl
 filling_take (suc n) (x ∷ gs) row g h = ap (cond (eqb g x) (eqb (row % 2) 1)) (filling_take n gs (row / 2) g (omega (arith, pow-suc 2 n)))
 
--- that place among the first eight, or the bit after the last where there is none
-pub place_is : (gs : List ℕ) (g m : ℕ) → m ≡ min (length gs) most_groups → IsPlace gs g (unwrap_or (position (λ x. x == g) (take m gs)) most_groups)
-place_is gs g m s = go (ltb (first (take m gs) g) (length (take m gs))) refl
+place_taken : (gs : List ℕ) (g m p : ℕ) → m ≡ min (length gs) most_groups → IsPlace (take m gs) g p → IsPlace gs g p
+place_taken gs g m p s h = record { small = h.small; says = λ row r. h.says row r ∙ kept row r }
   where
     kept : (row : ℕ) → row < row_count → filling (take m gs) row g ≡ filling gs row g
     kept row r = elim (leb (length gs) most_groups) as (λ b. leb (length gs) most_groups ≡ b → filling (take m gs) row g ≡ filling gs row g) [
@@ -182,17 +198,15 @@ place_is gs g m s = go (ltb (first (take m gs) g) (length (take m gs))) refl
       | false ↦ λ e. let q : m ≡ most_groups = omega (arith, leb-false (length gs) most_groups e) in rw q (filling_take most_groups gs row g (omega arith))
     ] refl
 
-    go : (b : Bool) → ltb (first (take m gs) g) (length (take m gs)) ≡ b → IsPlace gs g (unwrap_or (cond b (Some (first (take m gs) g)) None) most_groups)
-    go true e = record {
-      small = let l = ltb-true (first (take m gs) g) (length (take m gs)) e in omega (arith, length-take m gs);
-      says = λ row r.
-          let f : filling (take m gs) row g ≡ eqb (row / 2 ^ first (take m gs) g % 2) 1 = rw e at (filling_first (take m gs) g row) in
-          sym f ∙ kept row r;
-    }
-    go false e = record {
-      small = omega arith;
-      says = λ row r.
-          let z : row / 2 ^ most_groups ≡ 0 = omega arith in
-          let f : filling (take m gs) row g ≡ false = rw e at (filling_first (take m gs) g row) in
-          rw z (sym f ∙ kept row r);
-    }
+-- so the place is found among the first eight
+pub place_among : (gs : List ℕ) (g m : ℕ) → m ≡ min (length gs) most_groups → IsPlace gs g (unwrap_or (position (λ x. x == g) (take m gs)) most_groups)
+place_among gs g m s = go (ltb (first (take m gs) g) (length (take m gs))) refl (place_taken gs g m _ s (place_is (take m gs) g))
+  where
+    go : (b : Bool) → ltb (first (take m gs) g) (length (take m gs)) ≡ b
+        → IsPlace gs g (min (unwrap_or (cond b (Some (first (take m gs) g)) None) most_groups) most_groups)
+        → IsPlace gs g (unwrap_or (cond b (Some (first (take m gs) g)) None) most_groups)
+    go true e h =
+        let l = ltb-true (first (take m gs) g) (length (take m gs)) e in
+        let q : min (first (take m gs) g) most_groups ≡ first (take m gs) g = omega (arith, length-take m gs) in
+        rw q at h
+    go false e h = h
