@@ -70,17 +70,23 @@ pub record SameLamps (list groups drawing : List ℕ) (same : Bool) : Type 0 whe
   pub says : (t u : Tree) → list ≡ postfix t → drawing ≡ postfix u → length groups ≤ most_groups → Over (is_in groups) t → Over (is_in groups) u
       → Exactly (same ≡ true) (Equivalent t u)
 
-pub same_lamps : {list groups drawing : List ℕ} (a b : List Bool) → ((t : Tree) → list ≡ postfix t → a ≡ table groups t) → ((u : Tree) → drawing ≡ postfix u → b ≡ table groups u)
-    → SameLamps list groups drawing (pointwise beq a b)
-same_lamps {groups = groups} a b tabled drawn = record {
+-- by whatever tells whether the tables are the same
+pub same_lamps_by : {list groups drawing : List ℕ} {same : Bool} (a b : List Bool) → ((t : Tree) → list ≡ postfix t → a ≡ table groups t) → ((u : Tree) → drawing ≡ postfix u → b ≡ table groups u)
+    → Exactly (same ≡ true) (a ≡ b) → SameLamps list groups drawing same
+same_lamps_by {groups = groups} a b tabled drawn compared = record {
   says = λ t u e f few p q.
       let law = table_law groups t u few p q in
-      let same = slice_eq-Decides booleans_Decides a b _ refl in
       record {
-        only = λ s. law.tables_equivalent (sym (tabled t e) ∙ same.0 s ∙ drawn u f);
-        always = λ E. same.1 (tabled t e ∙ law.equivalent_tables E ∙ sym (drawn u f));
+        only = λ s. law.tables_equivalent (sym (tabled t e) ∙ compared.only s ∙ drawn u f);
+        always = λ E. compared.always (tabled t e ∙ law.equivalent_tables E ∙ sym (drawn u f));
       };
 }
+
+pub same_lamps : {list groups drawing : List ℕ} (a b : List Bool) → ((t : Tree) → list ≡ postfix t → a ≡ table groups t) → ((u : Tree) → drawing ≡ postfix u → b ≡ table groups u)
+    → SameLamps list groups drawing (pointwise beq a b)
+same_lamps a b tabled drawn =
+    let same = slice_eq-Decides booleans_Decides a b _ refl in
+    same_lamps_by a b tabled drawn (record { only = λ s. same.0 s; always = λ e. same.1 e })
 
 module _ {list groups drawing : List ℕ} {same : Bool} (S : SameLamps list groups drawing same) (marks : List ℕ) where
   pub judged_other : same ≡ false → Judged list groups marks drawing (Ok OtherLamps)

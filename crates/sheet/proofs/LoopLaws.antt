@@ -1,6 +1,6 @@
 -- The loop of `read_lines`: what is left of the lines, read from the state that the reader's numbers stand for, gives the
 -- whole sheet's outcome.
-use mathlib.Core.Path.{◌≡◌, refl, sym, ap, ◌∙◌}
+use mathlib.Core.Path.{◌≡◌, refl, sym, ap, ap₂, ◌∙◌}
 use mathlib.Core.List.{List}
 use Prim.Native.Nat.{ℕ, ◌+◌, ◌≤◌, ◌<◌}
 use Rattle.std.proofs.Common.{Result, Ok, Err}
@@ -97,6 +97,11 @@ pub gives_refused : (o : ReadingOutcome) (refusal : Refusal) → Gives sheet_rul
 unfolding sheet_of
 gives_refused (accepted st) refusal g = absurd g
 gives_refused (refused number line) refusal g = rw (g.0, g.1)
+
+-- by whatever rules
+pub gives_refused_by : (rules : Rules) (o : ReadingOutcome) (N : ℕ) (refusal : Refusal) → Gives rules o {N = N} (Err refusal) → refused (fault_number refusal.fault) refusal.line ≡ o
+gives_refused_by rules (accepted st) N refusal g = absurd g
+gives_refused_by rules (refused number line) N refusal g = ap₂ refused g.0 g.1
 
 pub gives_no_drawing : (o : ReadingOutcome) (refusal : Refusal) → Gives candidate_rules o {N = candidate_rules.nodes} (Err refusal) → Err (fault_number refusal.fault, refusal.line) ≡ drawing_of o
 unfolding drawing_of
