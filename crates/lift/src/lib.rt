@@ -95,19 +95,24 @@ fn run(
     ensures { (m : MoveTable) → TableIs m table.entry.signs.now table.entry.lengths.now
         → LiftsNode m (take nodes x.old) node levels looks out.old result out.new }
 {
-    if levels == 0 {
-        tree::copy(&x[..nodes], out, 0);
-        return Ok(Lifted {
-            nodes,
-            position: node.part.to - 1,
-            looks,
-        });
+    let (mut from, mut into) = (&mut *x, &mut *y);
+    let mut made = Stepped { nodes, node };
+    let mut left = levels;
+    let mut looks = looks;
+    loop {
+        if left == 0 {
+            tree::copy(&from[..made.nodes], out, 0);
+            return Ok(Lifted {
+                nodes: made.nodes,
+                position: made.node.part.to - 1,
+                looks,
+            });
+        }
+        made = step::step(&from[..made.nodes], made.node, into, table)?;
+        (from, into) = (into, from);
+        left -= 1;
+        looks += 1;
     }
-    let Stepped {
-        nodes: size,
-        node: next,
-    } = step::step(&x[..nodes], node, y, table)?;
-    run(y, x, size, next, levels - 1, looks + 1, out, table)
 }
 
 // The level of the part that ends before `to`: how many operators take it, one after another.

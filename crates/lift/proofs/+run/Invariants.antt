@@ -1,4 +1,0 @@
-use Rattle.lift.proofs.+run.Given as goal
-
-abbrev pub decreases-run : goal.decreases-run
-decreases-run l = l.levels
