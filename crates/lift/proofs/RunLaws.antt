@@ -66,13 +66,14 @@ ends m x len n a c k looks r out out' S h g z W =
     let u : steps m 0 a c looks ≡ lifted (plug a c) (position a c) looks = unfold steps in refl in
     says_as (ap (λ (j : ℕ). steps m j a c looks) z ∙ u) (cc (q, v)) (wrote_over W (omega (arith, length-take-le len x h)) ∙ ap (λ (y : List ℕ). over y out) S.part.whole)
 
--- where a turn begins: in the list stands the node after some of the steps of the part a in the context c, and those that are left go on from there
+-- where a turn begins: the node stands in the list, in a context e, and the steps left from there, with the looks so far, answer what all `levels` steps
+-- from the context c answer
 pub record Reached (m : MoveTable) (a : Tree) (c : List Frame) (levels looks : ℕ) (list : List ℕ) (n : Node) (left so_far : ℕ) : Type 0 where
   pub e : List Frame
   pub stands : Standing list n a e
   pub same : steps m levels a c looks ≡ steps m left a e so_far
 
--- what those that are left answer, all of them do
+-- an answer of the steps that are left is the answer of all of them
 pub reached_answers : {m : MoveTable} {a : Tree} {c : List Frame} {levels looks : ℕ} {list : List ℕ} {n : Node} {left so_far : ℕ} (R : Reached m a c levels looks list n left so_far) (out : List ℕ) (r : Reply) (out' : List ℕ)
     → Lifts (steps m left a R.e so_far) out r out' → Lifts (steps m levels a c looks) out r out'
 reached_answers R out r out' L = subst (λ (x : Result). Lifts x out r out') (sym R.same) L

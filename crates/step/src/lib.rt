@@ -155,8 +155,8 @@ fn last_alone(words: usize) -> usize
     0
 }
 
-// One step of a lift, written to `out`, by a table's words; without any by ours. Kept out of its caller's loop: compiled into it, a step took a
-// seventh more instructions.
+// One step of a lift, written to `out`, by a table's words; without any by ours. Kept out of its caller's loop: compiled into it,
+// a lift by 4,094 levels took a seventh more instructions.
 #[inline(never)]
 pub fn step(
     list: &[u16],

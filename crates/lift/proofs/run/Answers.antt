@@ -8,7 +8,7 @@ use Rattle.lift.proofs.RunLaws.{goes_on_lem, refuses_step, ends, Reached, reache
 use Rattle.lift.proofs.run.Goals as goal
 use Rattle.lift.proofs.run.Goals.{At-loop-left}
 
--- what is reached of the part and by the table that `requires` has
+-- `Reached`, of the part and the table that `requires` hands over
 abbrev Here : At-loop-left → Type 0
 Here t =
     let p = t.requires in
@@ -26,6 +26,17 @@ overflow_sub-result c =
     let R = here (goal.at.overflow_sub-result c).At-loop-left in
     omega (arith, R.stands.part.ends, size_positive c.requires.stands.0)
 
+pub returns-in_err-made : goal.returns-in_err-made
+returns-in_err-made c =
+    let g = c.args in
+    let l = c.loop-left in
+    let p = err_from_is_err_and c.from_residual.result c.from_residual.ensures.1 in
+    λ m K. record {
+      lifts = λ a k S.
+          let R = l.invariant.5 m K a k S in
+          reached_answers R g.out.now _ l.out (rw (p.1, p.2, l.invariant.4) (refuses_step m a R.e l.left l.looks c.if-left-eq0.false _ g.out.now _ (c.in_err-made.ensures m K a R.e R.stands)));
+    }
+
 pub returns-then-left-eq0 : goal.returns-then-left-eq0
 returns-then-left-eq0 c =
     let g = c.args in
@@ -40,17 +51,6 @@ pub step-requires-clause-stands : goal.step-requires-clause-stands
 step-requires-clause-stands c =
     let R = here (goal.at.step-requires-clause-stands c).At-loop-left in
     ((_, _, R.stands), c.requires.some_table)
-
-pub returns-in_err-made : goal.returns-in_err-made
-returns-in_err-made c =
-    let g = c.args in
-    let l = c.loop-left in
-    let p = err_from_is_err_and c.from_residual.result c.from_residual.ensures.1 in
-    λ m K. record {
-      lifts = λ a k S.
-          let R = l.invariant.5 m K a k S in
-          reached_answers R g.out.now _ l.out (rw (p.1, p.2, l.invariant.4) (refuses_step m a R.e l.left l.looks c.if-left-eq0.false _ g.out.now _ (c.in_err-made.ensures m K a R.e R.stands)));
-    }
 
 pub loop-left-preserved : goal.loop-left-preserved
 loop-left-preserved c =
